@@ -82,7 +82,7 @@ module _ (x : Context) (n : List ℕ) (d : Data) where
   list_here ds = result_map needed (entry_names x (codes "dependencies") n (names_in ds))
 
   pub list_right : (ds : Items) → Some ds ≡ as_array d → entry_names x (codes "dependencies") n (names_in ds) ≡ Ok (texts_of ds)
-      → dependency_entry x (codes "dependencies") n d ≡ Ok (n, dependency_at (site_in x) n d)
+      → dependency_entry x (codes "dependencies") n d ≡ Ok (n, dependency_at (site_in x) (codes "dependencies") n d)
   list_right ds e h =
       list-there list_here (result_map applied schema_here) d ds e ∙ ap (result_map needed) h
       ∙ ap (λ (y : Dependency Site). Ok (n, y)) (sym (list-there (λ es. needs (texts_of es)) (applies (site_in x (name n ∷ name (codes "dependencies") ∷ []) d)) d ds e))
@@ -92,7 +92,7 @@ module _ (x : Context) (n : List ℕ) (d : Data) where
       subst (λ (r : Entry). IsWrong x w r) (sym (list-there list_here (result_map applied schema_here) d ds e)) (wrong_mapped needed x w (entry_names x (codes "dependencies") n (names_in ds)) h)
 
   pub schema_right : None ≡ as_array d → schema_here ≡ Ok (site_in x (name n ∷ name (codes "dependencies") ∷ []) d)
-      → dependency_entry x (codes "dependencies") n d ≡ Ok (n, dependency_at (site_in x) n d)
+      → dependency_entry x (codes "dependencies") n d ≡ Ok (n, dependency_at (site_in x) (codes "dependencies") n d)
   schema_right e h =
       no-list list_here (result_map applied schema_here) d e ∙ ap (result_map applied) h
       ∙ ap (λ (y : Dependency Site). Ok (n, y)) (sym (no-list (λ es. needs (texts_of es)) (applies (site_in x (name n ∷ name (codes "dependencies") ∷ []) d)) d e))
@@ -127,24 +127,24 @@ abbrev entries_here : Context → Members → Entries
 entries_here x ms = dependency_entries x (codes "dependencies") ms
 
 pub record Left (all rest : Members) : Type 0 where
-  pub right : (x : Context) → entries_here x rest ≡ Ok (dependencies_in (site_in x) rest) → entries_here x all ≡ Ok (dependencies_in (site_in x) all)
+  pub right : (x : Context) → entries_here x rest ≡ Ok (dependencies_in (site_in x) (codes "dependencies") rest) → entries_here x all ≡ Ok (dependencies_in (site_in x) (codes "dependencies") all)
   pub wrong : (x : Context) (w : Reading) → IsWrong x w (entries_here x rest) → IsWrong x w (entries_here x all)
 
 pub left_all : (all : Members) → Left all all
 left_all all = record { right = λ x h. h; wrong = λ x w h. h }
 
 pub left_step : (all : Members) (n : List ℕ) (d : Data) (more : Members) → Left all (member n d more)
-    → ((x : Context) → dependency_entry x (codes "dependencies") n d ≡ Ok (n, dependency_at (site_in x) n d)) → Left all more
+    → ((x : Context) → dependency_entry x (codes "dependencies") n d ≡ Ok (n, dependency_at (site_in x) (codes "dependencies") n d)) → Left all more
 left_step all n d more l h = record {
-  right = λ x g. l.right x (ap (λ (r : Entry). and_more r (entries_here x more)) (h x) ∙ ap (and_more (Ok (n, dependency_at (site_in x) n d))) g);
-  wrong = λ x w g. l.wrong x w (subst (λ (r : Entry). IsWrong x w (and_more r (entries_here x more))) (sym (h x)) (wrong_more x w (n, dependency_at (site_in x) n d) (entries_here x more) g));
+  right = λ x g. l.right x (ap (λ (r : Entry). and_more r (entries_here x more)) (h x) ∙ ap (and_more (Ok (n, dependency_at (site_in x) (codes "dependencies") n d))) g);
+  wrong = λ x w g. l.wrong x w (subst (λ (r : Entry). IsWrong x w (and_more r (entries_here x more))) (sym (h x)) (wrong_more x w (n, dependency_at (site_in x) (codes "dependencies") n d) (entries_here x more) g));
 }
 
 pub left_stop : (all : Members) (n : List ℕ) (d : Data) (more : Members) (w : Reading) → Left all (member n d more)
     → ((x : Context) → IsWrong x w (dependency_entry x (codes "dependencies") n d)) → (x : Context) → IsWrong x w (entries_here x all)
 left_stop all n d more w l h x = l.wrong x w (wrong_first x w (dependency_entry x (codes "dependencies") n d) (entries_here x more) (h x))
 
-pub left_none : (all : Members) → Left all no_members → (x : Context) → entries_here x all ≡ Ok (dependencies_in (site_in x) all)
+pub left_none : (all : Members) → Left all no_members → (x : Context) → entries_here x all ≡ Ok (dependencies_in (site_in x) (codes "dependencies") all)
 left_none all l x = l.right x refl
 
 -- ---- the row
@@ -156,8 +156,8 @@ module _ (x : Context) (d : Data) where
   abbrev by_entries : Members → Row
   by_entries ms = made (entries_here x ms)
 
-  pub entries_right : (ms : Members) → Some ms ≡ as_object d → entries_here x ms ≡ Ok (dependencies_in (site_in x) ms)
-      → dependencies_row x (codes "dependencies") d ≡ reads (sites_applied (dependencies_in (site_in x) ms)) (told.dependencies (dependencies_in (site_in x) ms) ∷ [])
+  pub entries_right : (ms : Members) → Some ms ≡ as_object d → entries_here x ms ≡ Ok (dependencies_in (site_in x) (codes "dependencies") ms)
+      → dependencies_row x (codes "dependencies") d ≡ reads (sites_applied (dependencies_in (site_in x) (codes "dependencies") ms)) (told.dependencies (dependencies_in (site_in x) (codes "dependencies") ms) ∷ [])
   entries_right ms e h = object-there by_entries (bad_value x (codes "dependencies") (codes "object")) d ms e ∙ ap made h
 
   made_wrong : (w : Reading) (r : Entries) → IsWrong x w r → ReadsAs x (codes "dependencies") (made r) w

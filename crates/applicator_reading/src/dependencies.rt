@@ -67,7 +67,7 @@ fn refused_entry<'s>(
 ) -> Result<Option<Reading<'s>>, AllocError>
     ensures right { IfOk result (λ o. IfNone o
         ((x : rows.Context) → rows.dependency_entry x (codes "dependencies") name.now (view entry.now)
-        ≡ Ok (name.now, dependency_at (site_in x) name.now (view entry.now)))) }
+        ≡ Ok (name.now, dependency_at (site_in x) (codes "dependencies") name.now (view entry.now)))) }
     ensures wrong { IfOk result (λ o. IfSome o
         (λ r. (x : rows.Context) → IsWrong x r
         (rows.dependency_entry x (codes "dependencies") name.now (view entry.now)))) }
@@ -86,7 +86,7 @@ fn first_refused<'s>(
 ) -> Result<Option<Reading<'s>>, AllocError>
     ensures right { IfOk result (λ o. IfNone o
         ((x : rows.Context) → rows.dependency_entries x (codes "dependencies") (members_view entries.now.entries)
-        ≡ Ok (dependencies_in (site_in x) (members_view entries.now.entries)))) }
+        ≡ Ok (dependencies_in (site_in x) (codes "dependencies") (members_view entries.now.entries)))) }
     ensures wrong { IfOk result (λ o. IfSome o
         (λ r. (x : rows.Context) → IsWrong x r
         (rows.dependency_entries x (codes "dependencies") (members_view entries.now.entries)))) }

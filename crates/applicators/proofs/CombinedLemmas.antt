@@ -35,22 +35,22 @@ none_missing (string s) = refl
 none_missing (array ds) = refl
 none_missing (object ms) = refl
 
-needed-here : (site : List Part → Data → Site) (n : List ℕ) (d c : Data) → needed d (dependency_at site n c) ≡ missing (texts_in c) d
-needed-here site n d null = sym (none_missing d)
-needed-here site n d (boolean b) = sym (none_missing d)
-needed-here site n d (number m) = sym (none_missing d)
-needed-here site n d (string s) = sym (none_missing d)
-needed-here site n d (array ds) = refl
-needed-here site n d (object ms) = sym (none_missing d)
+needed-here : (site : List Part → Data → Site) (k n : List ℕ) (d c : Data) → needed d (dependency_at site k n c) ≡ missing (texts_in c) d
+needed-here site k n d null = sym (none_missing d)
+needed-here site k n d (boolean b) = sym (none_missing d)
+needed-here site k n d (number m) = sym (none_missing d)
+needed-here site k n d (string s) = sym (none_missing d)
+needed-here site k n d (array ds) = refl
+needed-here site k n d (object ms) = sym (none_missing d)
 
-notes-here : (site : List Part → Data → Site) (d : Data) (ms : Members) → flat_map (λ p. if_member (get p.0 d) (λ e. needed d p.1)) (dependencies_in site ms) ≡ missing_beside (entries_of ms) d
-notes-here site d no_members = refl
-notes-here site d (member n c ms) = ap₂ (λ (xs ys : List Note). if_member (get n d) (λ e. xs) ++ ys) (needed-here site n d c) (notes-here site d ms)
+notes-here : (site : List Part → Data → Site) (k : List ℕ) (d : Data) (ms : Members) → flat_map (λ p. if_member (get p.0 d) (λ e. needed d p.1)) (dependencies_in site k ms) ≡ missing_beside (entries_of ms) d
+notes-here site k d no_members = refl
+notes-here site k d (member n c ms) = ap₂ (λ (xs ys : List Note). if_member (get n d) (λ e. xs) ++ ys) (needed-here site k n d c) (notes-here site k d ms)
 
 -- ---- the rule of each applicator
 
 noted_so : (site : List Part → Data → Site) (k : List ℕ) (f : Asks) (d : Data) → noted (form_by site k f) d ≡ noted_by f d
-noted_so site k (asking.Dependencies entries) d = notes-here site d (members_view entries.now.entries)
+noted_so site k (asking.Dependencies entries) d = notes-here site k d (members_view entries.now.entries)
 noted_so site k f d = refl
 
 kind_so : (site : List Part → Data → Site) (matches : List ℕ → List ℕ → Bool) (k : List ℕ) (f : Asks) (d : Data) → kind_in matches (form_by site k f) d ≡ kind_asked matches f d

@@ -1,14 +1,12 @@
 -- The questions that those of the code stand for.
-use Rattle.std.specs.Prelude.{ℕ, List, map}
-use Rattle.std.specs.List.{flat_map}
+use Rattle.std.specs.Prelude.{List, map}
 use Rattle.serde_json.specs.Data.{Data}
-use Rattle.serde_json.specs.Find.{get}
 use Rattle.serde_json.specs.View.{view}
 use Rattle.json_values.specs.Parts.{Part}
 use Rattle.schema_definitions.specs.Sites.{Site}
 use Rattle.schema_meaning.specs.Places.{Step, stay, to_item, to_member, to_name}
 use Rattle.schema_meaning.specs.Questions as told
-use Rattle.schema_meaning.specs.Keywords.{Dependency, applied}
+pub use Rattle.schema_meaning.specs.Keywords.{each_dependency}
 use Rattle.applicators.specs.Sites.{added_at, place_of}
 use Rattle.applicators.specs.declared.question.Asked.{Asked}
 use Rattle.applicators.specs.declared.question.Asked.TheVariants as asked
@@ -26,7 +24,3 @@ question_of site q = told.question (place_of site q.subschema) (step_of q.asked)
 
 abbrev pub questions_of : (List Part → Data → Site) → List Question → List (told.Question Site)
 questions_of site qs = map (question_of site) qs
-
--- the value by each entry of `dependencies` that is a schema and whose name is a member
-abbrev pub each_dependency : {S : Type 0} → Data → List (List ℕ × Dependency S) → List (told.Question S)
-each_dependency d ps = flat_map (λ p. told.if_member (get p.0 d) (λ e. applied p.0 p.1)) ps

@@ -1,5 +1,5 @@
 -- The sites of the subschemas in the values of keywords.
-use Rattle.std.specs.Prelude.{ℕ, suc, List, [], ◌∷◌, Bool, not, Option, None, Some, codes}
+use Rattle.std.specs.Prelude.{ℕ, suc, List, [], ◌∷◌, Bool, not, Option, None, Some}
 use Rattle.std.specs.Borrow.{Bor}
 use Rattle.std.specs.List.{filter}
 use Rattle.serde_json.specs.Data.{Data, Items, no_items, item, Members, no_members, member}
@@ -36,12 +36,12 @@ sites_of_map site k no_members = []
 sites_of_map site k (member n d ms) = (n, site (at_name k n) d) ∷ sites_of_map site k ms
 
 -- an entry of `dependencies`: the texts of a list, or a schema
-abbrev pub dependency_at : (List Part → Data → Site) → List ℕ → Data → Dependency Site
-dependency_at site n d = in_list (λ ds. needs (texts_of ds)) (applies (site (at_name (codes "dependencies") n) d)) d
+abbrev pub dependency_at : (List Part → Data → Site) → List ℕ → List ℕ → Data → Dependency Site
+dependency_at site k n d = in_list (λ ds. needs (texts_of ds)) (applies (site (at_name k n) d)) d
 
-abbrev pub dependencies_in : (List Part → Data → Site) → Members → List (List ℕ × Dependency Site)
-dependencies_in site no_members = []
-dependencies_in site (member n d ms) = (n, dependency_at site n d) ∷ dependencies_in site ms
+abbrev pub dependencies_in : (List Part → Data → Site) → List ℕ → Members → List (List ℕ × Dependency Site)
+dependencies_in site k no_members = []
+dependencies_in site k (member n d ms) = (n, dependency_at site k n d) ∷ dependencies_in site k ms
 
 abbrev pub site_of : (List Part → Data → Site) → List ℕ → Data → Site
 site_of site k d = site (at k) d

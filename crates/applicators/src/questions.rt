@@ -200,18 +200,19 @@ fn push_triggered<'r, 'i>(
 // The value by an entry of `dependencies` that is a schema.
 fn push_dependency<'r, 'i>(
     questions: &mut Vec<Question<'r, 'i>>,
+    keyword: &'static str,
     name: &'r str,
     entry: &'r Value,
 ) -> Result<(), AllocError>
     ensures { OnOk result ((site : List Part → Data → Site) → questions_of site questions.new.items
-        ≡ questions_of site questions.old.items ++ applied name.now (dependency_at site name.now (view entry.now))) }
+        ≡ questions_of site questions.old.items ++ applied keyword.now name.now (dependency_at site keyword.now name.now (view entry.now))) }
 {
     match entry {
         Value::Array(_) => Ok(()),
         _ => {
             questions.push(Question {
                 subschema: Subschema {
-                    keyword: "dependencies",
+                    keyword,
                     entry: Entry::Name(name),
                     schema: entry,
                 },
@@ -225,15 +226,16 @@ fn push_dependency<'r, 'i>(
 // The same where its name is a member.
 fn push_dependency_of_member<'r, 'i>(
     questions: &mut Vec<Question<'r, 'i>>,
+    keyword: &'static str,
     name: &'r str,
     entry: &'r Value,
     value: &Value,
 ) -> Result<(), AllocError>
     ensures { OnOk result ((site : List Part → Data → Site) → questions_of site questions.new.items
-        ≡ questions_of site questions.old.items ++ if_member (get name.now (view value.now)) (λ e. applied name.now (dependency_at site name.now (view entry.now)))) }
+        ≡ questions_of site questions.old.items ++ if_member (get name.now (view value.now)) (λ e. applied keyword.now name.now (dependency_at site keyword.now name.now (view entry.now)))) }
 {
     match value.get(name) {
-        Some(_) => push_dependency(questions, name, entry),
+        Some(_) => push_dependency(questions, keyword, name, entry),
         None => Ok(()),
     }
 }
@@ -241,14 +243,15 @@ fn push_dependency_of_member<'r, 'i>(
 // The same of each entry.
 fn push_dependencies<'r, 'i>(
     questions: &mut Vec<Question<'r, 'i>>,
+    keyword: &'static str,
     entries: &'r Map<String, Value>,
     value: &Value,
 ) -> Result<(), AllocError>
     ensures { OnOk result ((site : List Part → Data → Site) → questions_of site questions.new.items
-        ≡ questions_of site questions.old.items ++ each_dependency (view value.now) (dependencies_in site (members_view entries.now.entries))) }
+        ≡ questions_of site questions.old.items ++ each_dependency keyword.now (view value.now) (dependencies_in site keyword.now (members_view entries.now.entries))) }
 {
     for (name, entry) in entries.iter() {
-        push_dependency_of_member(questions, name.as_str(), entry, value)?;
+        push_dependency_of_member(questions, keyword, name.as_str(), entry, value)?;
     }
     Ok(())
 }
@@ -417,7 +420,7 @@ fn push_asked<'r, 'i>(
         Asks::Members(schema) => push_members(questions, keyword, schema, value),
         Asks::Names(schema) => push_names(questions, keyword, schema, value),
         Asks::Triggered(schemas) => push_triggered(questions, keyword, schemas, value),
-        Asks::Dependencies(entries) => push_dependencies(questions, entries, value),
+        Asks::Dependencies(entries) => push_dependencies(questions, keyword, entries, value),
         Asks::Branches(schemas) => push_branches(questions, keyword, schemas),
         Asks::Value(schema) => push(questions, keyword, schema, Asked::Value),
         Asks::Condition {

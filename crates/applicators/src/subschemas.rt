@@ -69,17 +69,18 @@ fn push_map<'r>(
 // An entry of `dependencies` that is a schema.
 fn push_dependency<'r>(
     found: &mut Vec<Subschema<'r>>,
+    keyword: &'static str,
     name: &'r str,
     entry: &'r Value,
 ) -> Result<(), AllocError>
     ensures { OnOk result ((site : List Part → Data → Site) → map (place_of site) found.new.items
-        ≡ map (place_of site) found.old.items ++ sites_applied ((name.now, dependency_at site name.now (view entry.now)) ∷ [])) }
+        ≡ map (place_of site) found.old.items ++ sites_applied ((name.now, dependency_at site keyword.now name.now (view entry.now)) ∷ [])) }
 {
     match entry {
         Value::Array(_) => Ok(()),
         _ => {
             found.push(Subschema {
-                keyword: "dependencies",
+                keyword,
                 entry: Entry::Name(name),
                 schema: entry,
             })?;
@@ -90,13 +91,14 @@ fn push_dependency<'r>(
 
 fn push_dependencies<'r>(
     found: &mut Vec<Subschema<'r>>,
+    keyword: &'static str,
     entries: &'r Map<String, Value>,
 ) -> Result<(), AllocError>
     ensures { OnOk result ((site : List Part → Data → Site) → map (place_of site) found.new.items
-        ≡ map (place_of site) found.old.items ++ sites_applied (dependencies_in site (members_view entries.now.entries))) }
+        ≡ map (place_of site) found.old.items ++ sites_applied (dependencies_in site keyword.now (members_view entries.now.entries))) }
 {
     for (name, entry) in entries.iter() {
-        push_dependency(found, name.as_str(), entry)?;
+        push_dependency(found, keyword, name.as_str(), entry)?;
     }
     Ok(())
 }
@@ -118,7 +120,7 @@ fn push_subschemas<'r>(
         Asks::Members(schema) => push_whole(found, keyword, schema),
         Asks::Names(schema) => push_whole(found, keyword, schema),
         Asks::Triggered(schemas) => push_map(found, keyword, schemas),
-        Asks::Dependencies(entries) => push_dependencies(found, entries),
+        Asks::Dependencies(entries) => push_dependencies(found, keyword, entries),
         Asks::Branches(schemas) => push_list(found, keyword, schemas),
         Asks::Value(schema) => push_whole(found, keyword, schema),
         Asks::Condition { condition, .. } => push_whole(found, keyword, condition),

@@ -3,13 +3,13 @@ use Rattle.std.specs.Prelude.{if◌then◌else◌}
 use Rattle.std.proofs.Common.{◌≡◌, ◌∙◌, ◌++◌, ℕ, nat_lt, List, [], ◌∷◌, Bool, true, false, Option, None, Some, codes, refl, sym, ap, subst, map, append_assoc, append-nil}
 use Rattle.std.specs.List.{flat_map}
 use Rattle.serde_json.specs.Data.{Data, null, boolean, number, string, array, object, Members, no_members, member}
-use Rattle.json_values.specs.Parts.{Part, name}
+use Rattle.json_values.specs.Parts.{Part}
 use Rattle.json_values.specs.Pointers.{escape}
 use Rattle.schema_meaning.specs.Members.{In, first, later, count_true}
 use Rattle.schema_meaning.specs.Places.{stay, whole}
-use Rattle.schema_meaning.specs.Questions.{Question, at, listed_members, members_of, names_of, other_members, items_from, items_of, each_branch, each_item}
+use Rattle.schema_meaning.specs.Questions.{Question, at, listed_members, names_of, items_of, each_item}
 use Rattle.schema_meaning.specs.Rules.{Rule, refuses_at, obliged, lone, every, accepts, count_refused_at, chosen_name, chosen_steps}
-use Rattle.schema_meaning.specs.Keywords.{Shape, never, asserts, items, item_list, prefix_items, additional_items, no_additional_items, contains, properties, pattern_properties, additional_properties, no_additional_properties, no_properties, property_names, no_property_names, dependent_schemas, dependencies, all_of, any_of, one_of, negation, condition, reference, reference_name, rule, counting, consequent}
+use Rattle.schema_meaning.specs.Keywords.{Form, Shape, never, asserts, asks_every, asks_together, asks_names, asks_some, asks_one, asks_no, contains, condition, reference, reference_name, asked, rule, counting, consequent}
 use Rattle.schema_meaning.specs.Readings.{Reading, rules}
 use Rattle.schema_definitions.specs.Bearers.{Documents}
 use Rattle.schema_definitions.specs.Sites.{Site}
@@ -22,10 +22,10 @@ use Rattle.schema_meaning.specs.Certificates.{AreAnswers}
 use Rattle.certificate_laws.proofs.Answers.{obliged_refuses}
 use Rattle.certificate_laws.proofs.Parts.{path_text-append}
 use Rattle.certificate_laws.proofs.Steps.{first_step, from_step}
-use Rattle.certificate_laws.specs.Words.{IsRest, nothing, IsOf, Bears, count_names, choice_names}
+use Rattle.certificate_laws.specs.Words.{IsRest, nothing, IsAskedBy, IsOf, Bears, count_names, choice_names}
 use Rattle.certificate_laws.proofs.Cuts.{rest_of, rest_append}
-use Rattle.certificate_laws.proofs.Added.{branch_added, by_item_added, member_added, name_added, matching_added, triggered_added, dependency_added}
-use Rattle.certificate_laws.proofs.Listed.{in_some, in_all, in_mapped, item_question, declared_question}
+use Rattle.certificate_laws.proofs.Added.{name_added, own_name, form_added}
+use Rattle.certificate_laws.proofs.Listed.{in_some, in_all, in_mapped}
 
 -- ---- the rule of a keyword that is read
 
@@ -48,81 +48,24 @@ in_lone (y ∷ []) x i = i
 in_lone (y ∷ z ∷ xs) x i = elim i [ ]
 
 module _ {S : Type 0} (matches : List ℕ → List ℕ → Bool) (d : Data) (k : List ℕ) where
+  -- the obliged ones are of those that the form asks
+  by_form : {r : Rule S} (n : List ℕ) (form : Form S) → IsAskedBy k n form → ((bs : List Bool) → refuses_at r bs ≡ at n)
+      → ((bs : List Bool) (q : Question S) → In q (obliged r bs) → In q (asked matches n d form)) → Begins k r
+  by_form n form h own among = record {
+    own = λ bs. own bs ∙ ap at (own_name form h);
+    on = λ bs q i. let w = form_added matches d k n form h q (among bs q i) in (w.0, w.1 ∙ ap (λ m. w.0 ++ at m) (own_name form h));
+  }
+
   pub shape_begins : (x : Shape S) → IsOf k x → Begins k (rule matches d x)
   shape_begins never h = absurd h
   shape_begins (asserts a) h = record { own = λ bs. ap at h; on = λ bs q i. elim i [ ] }
-  shape_begins (items start s) h = record {
-    own = λ bs. ap at h;
-    on = λ bs q i. let w = item_question (codes "items") s start (items_from start (items_of d)) q i in ([], ap (λ (x : Question S). x.added) w.3 ∙ ap at h);
-  }
-  shape_begins (item_list ss) h = record {
-    own = λ bs. ap at h;
-    on = λ bs q i. let w = by_item_added (codes "items") ss 0 (items_of d) q i in (w.0, w.1 ∙ ap (λ n. w.0 ++ at n) h);
-  }
-  shape_begins (prefix_items ss) h = record {
-    own = λ bs. ap at h;
-    on = λ bs q i. let w = by_item_added (codes "prefixItems") ss 0 (items_of d) q i in (w.0, w.1 ∙ ap (λ n. w.0 ++ at n) h);
-  }
-  shape_begins (additional_items start s) h = record {
-    own = λ bs. ap at h;
-    on = λ bs q i. let w = item_question (codes "additionalItems") s start (items_from start (items_of d)) q i in ([], ap (λ (x : Question S). x.added) w.3 ∙ ap at h);
-  }
-  shape_begins (no_additional_items start s) h = record {
-    own = λ bs. ap at h;
-    on = λ bs q i. let w = item_question (codes "additionalItems") s start (items_from start (items_of d)) q i in ([], ap (λ (x : Question S). x.added) w.3 ∙ ap at h);
-  }
+  shape_begins (asks_every n form) h = by_form n form h (λ bs. refl) (λ bs q i. i)
+  shape_begins (asks_together n form) h = by_form n form h (λ bs. refl) (λ bs q i. i)
+  shape_begins (asks_names n s) h = record { own = λ bs. ap at h; on = λ bs q i. ([], name_added n s (names_of d) q i ∙ ap at h) }
+  shape_begins (asks_some n form) h = by_form n form h (λ bs. refl) (λ bs q i. in_lone (asked matches n d form) q i)
+  shape_begins (asks_one n form) h = by_form n form h (λ bs. refl) (λ bs q i. in_lone (asked matches n d form) q i)
+  shape_begins (asks_no n schema s) h = record { own = λ bs. ap at h; on = λ bs q i. elim i [ ] }
   shape_begins (contains s least most) h = absurd h
-  shape_begins (properties ps) h = record {
-    own = λ bs. ap at h;
-    on = λ bs q i.
-        let w = declared_question (codes "properties") d ps q i in
-        (name w.0.0 ∷ [], ap (λ (x : Question S). x.added) w.4 ∙ ap (λ n. name w.0.0 ∷ at n) h);
-  }
-  shape_begins (pattern_properties ps) h = record {
-    own = λ bs. ap at h;
-    on = λ bs q i. let w = matching_added matches (codes "patternProperties") d ps q i in (w.0, w.1 ∙ ap (λ n. w.0 ++ at n) h);
-  }
-  shape_begins (additional_properties declared s) h = record {
-    own = λ bs. ap at h;
-    on = λ bs q i. ([], member_added (codes "additionalProperties") s (other_members matches declared d) q i ∙ ap at h);
-  }
-  shape_begins (no_additional_properties declared s) h = record {
-    own = λ bs. ap at h;
-    on = λ bs q i. ([], member_added (codes "additionalProperties") s (other_members matches declared d) q i ∙ ap at h);
-  }
-  shape_begins (no_properties s) h = record {
-    own = λ bs. ap at h;
-    on = λ bs q i. ([], member_added (codes "additionalProperties") s (members_of d) q i ∙ ap at h);
-  }
-  shape_begins (property_names s) h = record {
-    own = λ bs. ap at h;
-    on = λ bs q i. ([], name_added (codes "propertyNames") s (names_of d) q i ∙ ap at h);
-  }
-  shape_begins (no_property_names s) h = record {
-    own = λ bs. ap at h;
-    on = λ bs q i. ([], name_added (codes "propertyNames") s (names_of d) q i ∙ ap at h);
-  }
-  shape_begins (dependent_schemas ps) h = record {
-    own = λ bs. ap at h;
-    on = λ bs q i. let w = triggered_added (codes "dependentSchemas") d ps q i in (w.0, w.1 ∙ ap (λ n. w.0 ++ at n) h);
-  }
-  shape_begins (dependencies ps) h = record {
-    own = λ bs. ap at h;
-    on = λ bs q i. let w = dependency_added d ps q i in (w.0, w.1 ∙ ap (λ n. w.0 ++ at n) h);
-  }
-  shape_begins (all_of ss) h = record {
-    own = λ bs. ap at h;
-    on = λ bs q i. let w = branch_added (codes "allOf") 0 ss q i in (w.0, w.1 ∙ ap (λ n. w.0 ++ at n) h);
-  }
-  shape_begins (any_of ss) h = record {
-    own = λ bs. ap at h;
-    on = λ bs q i. let w = branch_added (codes "anyOf") 0 ss q (in_lone (each_branch (codes "anyOf") 0 ss) q i) in (w.0, w.1 ∙ ap (λ n. w.0 ++ at n) h);
-  }
-  shape_begins (one_of ss) h = record {
-    own = λ bs. ap at h;
-    on = λ bs q i. let w = branch_added (codes "oneOf") 0 ss q (in_lone (each_branch (codes "oneOf") 0 ss) q i) in (w.0, w.1 ∙ ap (λ n. w.0 ++ at n) h);
-  }
-  shape_begins (negation schema s) h = record { own = λ bs. ap at h; on = λ bs q i. elim i [ ] }
   shape_begins (condition s t e) h = absurd h
   shape_begins (reference r s) h = record { own = λ bs. ap at h; on = λ bs q i. ([], one_added (reference_name r) s h q i) }
 
@@ -195,25 +138,13 @@ module _ {S : Type 0} (matches : List ℕ → List ℕ → Bool) (d : Data) (k :
   pub shape_bears : (x : Shape S) → Bears k x → BeginsAs (λ n. Bears n x) (rule matches d x)
   shape_bears never h = absurd h
   shape_bears (asserts a) h = by_one (asserts a) h h
-  shape_bears (items start s) h = by_one (items start s) h h
-  shape_bears (item_list ss) h = by_one (item_list ss) h h
-  shape_bears (prefix_items ss) h = by_one (prefix_items ss) h h
-  shape_bears (additional_items start s) h = by_one (additional_items start s) h h
-  shape_bears (no_additional_items start s) h = by_one (no_additional_items start s) h h
+  shape_bears (asks_every n form) h = by_one (asks_every n form) h h
+  shape_bears (asks_together n form) h = by_one (asks_together n form) h h
+  shape_bears (asks_names n s) h = by_one (asks_names n s) h h
+  shape_bears (asks_some n form) h = by_one (asks_some n form) h h
+  shape_bears (asks_one n form) h = by_one (asks_one n form) h h
+  shape_bears (asks_no n schema s) h = by_one (asks_no n schema s) h h
   shape_bears (contains s least most) h = count_begins d least most (each_item (codes "contains") s 0 (items_of d))
-  shape_bears (properties ps) h = by_one (properties ps) h h
-  shape_bears (pattern_properties ps) h = by_one (pattern_properties ps) h h
-  shape_bears (additional_properties declared s) h = by_one (additional_properties declared s) h h
-  shape_bears (no_additional_properties declared s) h = by_one (no_additional_properties declared s) h h
-  shape_bears (no_properties s) h = by_one (no_properties s) h h
-  shape_bears (property_names s) h = by_one (property_names s) h h
-  shape_bears (no_property_names s) h = by_one (no_property_names s) h h
-  shape_bears (dependent_schemas ps) h = by_one (dependent_schemas ps) h h
-  shape_bears (dependencies ps) h = by_one (dependencies ps) h h
-  shape_bears (all_of ss) h = by_one (all_of ss) h h
-  shape_bears (any_of ss) h = by_one (any_of ss) h h
-  shape_bears (one_of ss) h = by_one (one_of ss) h h
-  shape_bears (negation schema s) h = by_one (negation schema s) h h
   shape_bears (condition s t e) h = record { name = λ bs. chosen_name bs; borne = λ bs. choice_own bs; own = λ bs. refl; on = λ bs q i. choice_on t e bs q i }
   shape_bears (reference r s) h = by_one (reference r s) h h
 

@@ -11,18 +11,44 @@ use Rattle.json_values.specs.Texts.{count_items}
 use Rattle.schema_definitions.specs.Lookup.{Target, LookupCause, lookup}
 use Rattle.schema_definitions.specs.Scopes.{dynamic_lookup, recursive_lookup}
 use Rattle.schema_meaning.specs.Members.{In, first, later, is_listed}
-use Rattle.schema_meaning.specs.Keywords.{Assertion, named, types, constant, enumeration, multiple_of, maximum, exclusive_maximum, minimum, exclusive_minimum, maximum_of_draft_4, minimum_of_draft_4, max_length, min_length, pattern, max_items, min_items, max_properties, min_properties, dependent_required, Shape, asserts, items, item_list, prefix_items, properties, dependent_schemas, all_of, any_of, one_of, negation, additional_items, no_additional_items, additional_properties, no_additional_properties, no_properties, Reference, static, dynamic, recursive, reference_name, reference, never, contains, pattern_properties, property_names, no_property_names, dependencies, condition}
+use Rattle.schema_meaning.specs.Keywords.{Assertion, named, types, constant, enumeration, multiple_of, maximum, exclusive_maximum, minimum, exclusive_minimum, maximum_of_draft_4, minimum_of_draft_4, max_length, min_length, pattern, max_items, min_items, max_properties, min_properties, dependent_required, Form, by_pattern, of_others, Shape, asserts, asks_every, asks_together, asks_names, asks_some, asks_one, asks_no, items, item_list, prefix_items, properties, dependent_schemas, all_of, any_of, one_of, negation, additional_items, no_additional_items, additional_properties, no_additional_properties, no_properties, Reference, static, dynamic, recursive, reference_name, reference, never, contains, pattern_properties, property_names, no_property_names, dependencies, condition}
 use Rattle.schema_definitions.specs.Sites.{Site, target_site}
 use Rattle.schema_definitions.specs.Values.{type_names, count_of, positive_of, whole_number, unique_names}
 use Rattle.schema_definitions.specs.Rows.{BuildCause, bad_pattern, refused, place_at, is_made, pattern_row, patterns_wrong, names_of_object, pattern_properties_row, behind_items, additional_items_row, is_false, declared_beside, is_alone, refuses_others, additional_properties_row, property_names_row, Row, nothing_read, reads, Context, counts_here, at, bad_value, subschema, each_subschema, each_named, row_of, one_schema, schema_list, sites_named, schema_map, asserted, assertion, length_of_list, beside, takes_list, items_row, with_causes, no_schema_there, led_to, ref_row, dynamic_row, is_hash, recursive_row, is_draft_4, is_true, unique_row, unless_empty, required_entries, dependent_required_row, Reader, readers, read_among, row_at, contains_row, bound_row, sites_applied, dependency_entries, dependencies_row, schema_beside, if_row, consequent_row}
-use Rattle.certificate_laws.specs.Words.{IsOf, IsUnder, member_of, Bears, count_names, choice_names, LeadsBack}
+use Rattle.certificate_laws.specs.Words.{IsAskedBy, AsksPatternsBy, HasPatternsBy, IsOf, IsUnder, member_of, Bears, count_names, choice_names, LeadsBack}
+use Rattle.certificate_laws.proofs.Added.{own_name}
+
+-- what is read as asked under one name: by patterns, under that of their keyword
+abbrev IsReadBy : {S : Type 0} → List ℕ → List ℕ → Form S → Type 0
+IsReadBy k name (by_pattern ps) = (name ≡ k) × (codes "patternProperties" ≡ k)
+IsReadBy k name (of_others declared s) = (name ≡ k) × (codes "additionalProperties" ≡ k)
+IsReadBy k name form = IsAskedBy k name form
+
+abbrev IsRead : {S : Type 0} → List ℕ → Shape S → Type 0
+IsRead k (asks_every name form) = IsReadBy k name form
+IsRead k (asks_together name form) = IsReadBy k name form
+IsRead k (asks_some name form) = IsReadBy k name form
+IsRead k (asks_one name form) = IsReadBy k name form
+IsRead k shape = IsOf k shape
+
+form_read : {S : Type 0} (k name : List ℕ) (form : Form S) → IsReadBy k name form → IsAskedBy k name form × AsksPatternsBy k form
+form_read k name (by_pattern ps) h = h
+form_read k name (of_others declared s) h = h
+form_read k name form h = (h, tt)
+
+shape_read : {S : Type 0} (k : List ℕ) (shape : Shape S) → IsRead k shape → IsOf k shape × HasPatternsBy k shape
+shape_read k (asks_every name form) h = form_read k name form h
+shape_read k (asks_together name form) h = form_read k name form h
+shape_read k (asks_some name form) h = form_read k name form h
+shape_read k (asks_one name form) h = form_read k name form h
+shape_read k shape h = (h, tt)
 
 abbrev AreOf : List ℕ → Row → Type 0
-AreOf k row = AllByRecursion (IsOf k) row.shapes
+AreOf k row = AllByRecursion (IsRead k) row.shapes
 
 -- ---- one keyword after another
 
-of_row : {A : Type 0} (k : List ℕ) (leads : A → List Site) (shapes : A → List (Shape Site)) → ((x : A) → AllByRecursion (IsOf k) (shapes x)) → (r : Result A (List BuildCause))
+of_row : {A : Type 0} (k : List ℕ) (leads : A → List Site) (shapes : A → List (Shape Site)) → ((x : A) → AllByRecursion (IsRead k) (shapes x)) → (r : Result A (List BuildCause))
     → AreOf k (row_of leads shapes r)
 of_row k leads shapes h (Ok x) = h x
 of_row k leads shapes h (Err e) = tt
@@ -54,7 +80,7 @@ of_recursive x d = by (is_hash (as_str d))
     by true = of_led x recursive (codes "#") (recursive_lookup x.documents x.site.base x.site.scope)
     by false = tt
 
-of_asserted : {A : Type 0} (x : Context) (k word : List ℕ) (shapes : A → List (Shape Site)) → ((a : A) → AllByRecursion (IsOf k) (shapes a)) → (o : Option A)
+of_asserted : {A : Type 0} (x : Context) (k word : List ℕ) (shapes : A → List (Shape Site)) → ((a : A) → AllByRecursion (IsRead k) (shapes a)) → (o : Option A)
     → AreOf k (asserted x k word shapes o)
 of_asserted x k word shapes h None = tt
 of_asserted x k word shapes h (Some a) = h a
@@ -62,7 +88,7 @@ of_asserted x k word shapes h (Some a) = h a
 of_count : (x : Context) (k : List ℕ) (a : ℕ → Assertion) → ((n : ℕ) → named (a n) ≡ k) → (o : Option ℕ) → AreOf k (asserted x k (codes "count") (λ n. assertion (a n)) o)
 of_count x k a h o = of_asserted x k (codes "count") (λ n. assertion (a n)) (λ n. (h n, tt)) o
 
-of_list : (x : Context) (k word : List ℕ) (shape : List Site → Shape Site) → ((ss : List Site) → IsOf k (shape ss)) → (d : Data) → AreOf k (schema_list x k word shape d)
+of_list : (x : Context) (k word : List ℕ) (shape : List Site → Shape Site) → ((ss : List Site) → IsRead k (shape ss)) → (d : Data) → AreOf k (schema_list x k word shape d)
 of_list x k word shape h null = tt
 of_list x k word shape h (boolean b) = tt
 of_list x k word shape h (number n) = tt
@@ -83,7 +109,7 @@ of_items x d = by (is_schema d) (takes_list x.site.dialect.draft)
 of_additional : (x : Context) (d : Data) → AreOf (codes "additionalItems") (additional_items_row x (codes "additionalItems") d)
 of_additional x d = by (option_and_then as_array (beside x (codes "items")))
   where
-    shape_of : (b : Bool) (start : ℕ) (s : Site) → IsOf (codes "additionalItems") (if b then no_additional_items start s else additional_items start s)
+    shape_of : (b : Bool) (start : ℕ) (s : Site) → IsRead (codes "additionalItems") (if b then no_additional_items start s else additional_items start s)
     shape_of true start s = refl
     shape_of false start s = refl
 
@@ -93,7 +119,7 @@ of_additional x d = by (option_and_then as_array (beside x (codes "items")))
         of_row (codes "additionalItems") (λ s. s ∷ []) (λ s. (if is_false d then no_additional_items (count_items ds) s else additional_items (count_items ds) s) ∷ [])
         (λ s. (shape_of (is_false d) (count_items ds) s, tt)) (subschema x (at (codes "additionalItems")) d)
 
-of_map : (x : Context) (k : List ℕ) (shape : List (List ℕ × Site) → Shape Site) → ((ps : List (List ℕ × Site)) → IsOf k (shape ps)) → (d : Data) → AreOf k (schema_map x k shape d)
+of_map : (x : Context) (k : List ℕ) (shape : List (List ℕ × Site) → Shape Site) → ((ps : List (List ℕ × Site)) → IsRead k (shape ps)) → (d : Data) → AreOf k (schema_map x k shape d)
 of_map x k shape h null = tt
 of_map x k shape h (boolean b) = tt
 of_map x k shape h (number n) = tt
@@ -144,54 +170,37 @@ of_dependencies x (object ms) =
 abbrev pub AreUnder : Context → List ℕ → Row → Type 0
 AreUnder x k row = AllByRecursion (IsUnder (is_draft_4 x.site.dialect.draft) k) row.shapes
 
+-- and each has patterns by the member's name
+abbrev AreRead : Bool → List ℕ → List (Shape Site) → Type 0
+AreRead b k shapes = AllByRecursion (λ s. IsUnder b k s × HasPatternsBy k s) shapes
+
+abbrev RowIsRead : Context → List ℕ → Row → Type 0
+RowIsRead x k row = AreRead (is_draft_4 x.site.dialect.draft) k row.shapes
+
 -- a shape that refuses under one name
 one_name : {S : Type 0} (shape : Shape S) (k n : List ℕ) → IsOf k shape → Bears n shape → k ≡ n
 one_name never k n h g = absurd h
 one_name (asserts a) k n h g = sym h ∙ g
-one_name (items start s) k n h g = sym h ∙ g
-one_name (item_list ss) k n h g = sym h ∙ g
-one_name (prefix_items ss) k n h g = sym h ∙ g
-one_name (additional_items start s) k n h g = sym h ∙ g
-one_name (no_additional_items start s) k n h g = sym h ∙ g
+one_name (asks_every name form) k n h g = sym (own_name form h) ∙ own_name form g
+one_name (asks_together name form) k n h g = sym (own_name form h) ∙ own_name form g
+one_name (asks_names name s) k n h g = sym h ∙ g
+one_name (asks_some name form) k n h g = sym (own_name form h) ∙ own_name form g
+one_name (asks_one name form) k n h g = sym (own_name form h) ∙ own_name form g
+one_name (asks_no name schema s) k n h g = sym h ∙ g
 one_name (contains s least most) k n h g = absurd h
-one_name (properties ps) k n h g = sym h ∙ g
-one_name (pattern_properties ps) k n h g = sym h ∙ g
-one_name (additional_properties declared s) k n h g = sym h ∙ g
-one_name (no_additional_properties declared s) k n h g = sym h ∙ g
-one_name (no_properties s) k n h g = sym h ∙ g
-one_name (property_names s) k n h g = sym h ∙ g
-one_name (no_property_names s) k n h g = sym h ∙ g
-one_name (dependent_schemas ps) k n h g = sym h ∙ g
-one_name (dependencies ps) k n h g = sym h ∙ g
-one_name (all_of ss) k n h g = sym h ∙ g
-one_name (any_of ss) k n h g = sym h ∙ g
-one_name (one_of ss) k n h g = sym h ∙ g
-one_name (negation schema s) k n h g = sym h ∙ g
 one_name (condition s t e) k n h g = absurd h
 one_name (reference r s) k n h g = sym h ∙ g
 
 its_name : {S : Type 0} (shape : Shape S) (k : List ℕ) → IsOf k shape → Bears k shape
 its_name never k h = h
 its_name (asserts a) k h = h
-its_name (items start s) k h = h
-its_name (item_list ss) k h = h
-its_name (prefix_items ss) k h = h
-its_name (additional_items start s) k h = h
-its_name (no_additional_items start s) k h = h
+its_name (asks_every name form) k h = h
+its_name (asks_together name form) k h = h
+its_name (asks_names name s) k h = h
+its_name (asks_some name form) k h = h
+its_name (asks_one name form) k h = h
+its_name (asks_no name schema s) k h = h
 its_name (contains s least most) k h = absurd h
-its_name (properties ps) k h = h
-its_name (pattern_properties ps) k h = h
-its_name (additional_properties declared s) k h = h
-its_name (no_additional_properties declared s) k h = h
-its_name (no_properties s) k h = h
-its_name (property_names s) k h = h
-its_name (no_property_names s) k h = h
-its_name (dependent_schemas ps) k h = h
-its_name (dependencies ps) k h = h
-its_name (all_of ss) k h = h
-its_name (any_of ss) k h = h
-its_name (one_of ss) k h = h
-its_name (negation schema s) k h = h
 its_name (condition s t e) k h = absurd h
 its_name (reference r s) k h = h
 
@@ -212,22 +221,22 @@ under_minimum true true z = under_one true (codes "minimum") (codes "exclusiveMi
 under_minimum true false z = under_one true (codes "minimum") (codes "minimum") (asserts (minimum_of_draft_4 z false)) refl refl refl
 under_minimum false strict z = under_one false (codes "minimum") (codes "minimum") (asserts (minimum z)) refl refl refl
 
-of_maximum : (x : Context) (o : Option ℤ) → AreUnder x (codes "maximum")
+of_maximum : (x : Context) (o : Option ℤ) → RowIsRead x (codes "maximum")
     (asserted x (codes "maximum") (codes "number") (λ z. assertion (if is_draft_4 x.site.dialect.draft then maximum_of_draft_4 z (is_true (beside x (codes "exclusiveMaximum"))) else maximum z)) o)
 of_maximum x None = tt
-of_maximum x (Some z) = (under_maximum (is_draft_4 x.site.dialect.draft) (is_true (beside x (codes "exclusiveMaximum"))) z, tt)
+of_maximum x (Some z) = ((under_maximum (is_draft_4 x.site.dialect.draft) (is_true (beside x (codes "exclusiveMaximum"))) z, tt), tt)
 
-of_minimum : (x : Context) (o : Option ℤ) → AreUnder x (codes "minimum")
+of_minimum : (x : Context) (o : Option ℤ) → RowIsRead x (codes "minimum")
     (asserted x (codes "minimum") (codes "number") (λ z. assertion (if is_draft_4 x.site.dialect.draft then minimum_of_draft_4 z (is_true (beside x (codes "exclusiveMinimum"))) else minimum z)) o)
 of_minimum x None = tt
-of_minimum x (Some z) = (under_minimum (is_draft_4 x.site.dialect.draft) (is_true (beside x (codes "exclusiveMinimum"))) z, tt)
+of_minimum x (Some z) = ((under_minimum (is_draft_4 x.site.dialect.draft) (is_true (beside x (codes "exclusiveMinimum"))) z, tt), tt)
 
 -- from Draft 6 on they are keywords of their own
 of_strict : (x : Context) (k : List ℕ) (a : ℤ → Assertion) → ((z : ℤ) → IsUnder {S = Site} false k (asserts (a z))) → (o : Option ℤ) (b : Bool)
-    → AllByRecursion (IsUnder b k) (if b then nothing_read else asserted x k (codes "number") (λ z. assertion (a z)) o).shapes
+    → AreRead b k (if b then nothing_read else asserted x k (codes "number") (λ z. assertion (a z)) o).shapes
 of_strict x k a h o true = tt
 of_strict x k a h None false = tt
-of_strict x k a h (Some z) false = (h z, tt)
+of_strict x k a h (Some z) false = ((h z, tt), tt)
 
 under_strict_maximum : (z : ℤ) → IsUnder {S = Site} false (codes "exclusiveMaximum") (asserts (exclusive_maximum z))
 unfolding escape
@@ -238,9 +247,11 @@ unfolding escape
 under_strict_minimum z = under_one false (codes "exclusiveMinimum") (codes "exclusiveMinimum") (asserts (exclusive_minimum z)) refl refl refl
 
 -- the other keywords refuse under their own name
-own : (b : Bool) (k : List ℕ) → member_of b k ≡ k → escape k ≡ k → (shapes : List (Shape Site)) → AllByRecursion (IsOf k) shapes → AllByRecursion (IsUnder b k) shapes
+own : (b : Bool) (k : List ℕ) → member_of b k ≡ k → escape k ≡ k → (shapes : List (Shape Site)) → AllByRecursion (IsRead k) shapes → AreRead b k shapes
 own b k same plain [] h = tt
-own b k same plain (s ∷ shapes) h = (under_one b k k s h.0 same plain, own b k same plain shapes h.1)
+own b k same plain (s ∷ shapes) h =
+    let is = shape_read k s h.0 in
+    ((under_one b k k s is.0 same plain, is.1), own b k same plain shapes h.1)
 
 -- `contains` refuses under its own name or that of a bound
 count_back : (b : Bool) (n : List ℕ) → In n count_names → LeadsBack b (codes "contains") n
@@ -253,18 +264,18 @@ count_back b n (later (later (later i))) = elim i [ ]
 under_count : (b : Bool) (s : Site) (least most : Option ℕ) → IsUnder b (codes "contains") (contains s least most)
 under_count b s least most = record { name = codes "contains"; named = first; back = count_back b }
 
-of_contains : (x : Context) (d : Data) → AreUnder x (codes "contains") (contains_row x (codes "contains") d)
+of_contains : (x : Context) (d : Data) → RowIsRead x (codes "contains") (contains_row x (codes "contains") d)
 of_contains x d = by (option_and_then count_of (beside x (codes "minContains"))) (option_and_then count_of (beside x (codes "maxContains"))) (subschema x (at (codes "contains")) d)
   where
-    by : (least most : Option ℕ) (r : Result Site (List BuildCause)) → AreUnder x (codes "contains") (row_of (λ s. s ∷ []) (λ s. contains s least most ∷ []) r)
-    by least most (Ok s) = (under_count (is_draft_4 x.site.dialect.draft) s least most, tt)
+    by : (least most : Option ℕ) (r : Result Site (List BuildCause)) → RowIsRead x (codes "contains") (row_of (λ s. s ∷ []) (λ s. contains s least most ∷ []) r)
+    by least most (Ok s) = ((under_count (is_draft_4 x.site.dialect.draft) s least most, tt), tt)
     by least most (Err causes) = tt
 
 -- the bounds have no shapes of their own
-of_bound : (x : Context) (k : List ℕ) (d : Data) → AreUnder x k (bound_row x k d)
+of_bound : (x : Context) (k : List ℕ) (d : Data) → RowIsRead x k (bound_row x k d)
 of_bound x k d = by (is_some (beside x (codes "contains"))) (count_of d)
   where
-    by : (b : Bool) (o : Option ℕ) → AreUnder x k (if b then asserted x k (codes "count") (λ n. []) o else nothing_read)
+    by : (b : Bool) (o : Option ℕ) → RowIsRead x k (if b then asserted x k (codes "count") (λ n. []) o else nothing_read)
     by true None = tt
     by true (Some n) = tt
     by false o = tt
@@ -280,40 +291,40 @@ choice_back b n (later (later (later i))) = elim i [ ]
 under_choice : (b : Bool) (s : Site) (t e : Option Site) → IsUnder b (codes "if") (condition s t e)
 under_choice b s t e = record { name = codes "if"; named = first; back = choice_back b }
 
-of_if : (x : Context) (d : Data) → AreUnder x (codes "if") (if_row x (codes "if") d)
+of_if : (x : Context) (d : Data) → RowIsRead x (codes "if") (if_row x (codes "if") d)
 of_if x d =
     by (is_some (beside x (codes "then")) || is_some (beside x (codes "else"))) (schema_beside x (codes "then")) (schema_beside x (codes "else")) (subschema x (at (codes "if")) d)
   where
     by : (b : Bool) (t e : Option Site) (r : Result Site (List BuildCause))
-        → AreUnder x (codes "if") (if b then row_of (λ s. s ∷ []) (λ s. condition s t e ∷ []) r else nothing_read)
-    by true t e (Ok s) = (under_choice (is_draft_4 x.site.dialect.draft) s t e, tt)
+        → RowIsRead x (codes "if") (if b then row_of (λ s. s ∷ []) (λ s. condition s t e ∷ []) r else nothing_read)
+    by true t e (Ok s) = ((under_choice (is_draft_4 x.site.dialect.draft) s t e, tt), tt)
     by true t e (Err causes) = tt
     by false t e r = tt
 
 -- `then` and `else` have no shapes of their own
-of_consequent : (x : Context) (k : List ℕ) (d : Data) → AreUnder x k (consequent_row x k d)
+of_consequent : (x : Context) (k : List ℕ) (d : Data) → RowIsRead x k (consequent_row x k d)
 of_consequent x k d = by (is_some (beside x (codes "if"))) (subschema x (at k) d)
   where
-    by : (b : Bool) (r : Result Site (List BuildCause)) → AreUnder x k (if b then row_of (λ s. s ∷ []) (λ s. []) r else nothing_read)
+    by : (b : Bool) (r : Result Site (List BuildCause)) → RowIsRead x k (if b then row_of (λ s. s ∷ []) (λ s. []) r else nothing_read)
     by true (Ok s) = tt
     by true (Err causes) = tt
     by false r = tt
 
 -- `additionalProperties` is read by what stands beside
-of_others : (x : Context) (d : Data) → AreOf (codes "additionalProperties") (additional_properties_row x (codes "additionalProperties") d)
-of_others x null = tt
-of_others x (boolean true) = tt
-of_others x (boolean false) =
+of_other_members : (x : Context) (d : Data) → AreOf (codes "additionalProperties") (additional_properties_row x (codes "additionalProperties") d)
+of_other_members x null = tt
+of_other_members x (boolean true) = tt
+of_other_members x (boolean false) =
     of_row (codes "additionalProperties") (λ s. s ∷ []) (λ s. refuses_others x s ∷ []) (λ s. (refusing (is_alone x) s, tt)) (subschema x (at (codes "additionalProperties")) (boolean false))
   where
-    refusing : (b : Bool) (s : Site) → IsOf (codes "additionalProperties") (if b then no_properties s else no_additional_properties (declared_beside x) s)
+    refusing : (b : Bool) (s : Site) → IsRead (codes "additionalProperties") (if b then no_properties s else no_additional_properties (declared_beside x) s)
     refusing true s = refl
-    refusing false s = refl
-of_others x (number n) = tt
-of_others x (string s) = tt
-of_others x (array ds) = tt
-of_others x (object ms) =
-    of_row (codes "additionalProperties") (λ s. s ∷ []) (λ s. additional_properties (declared_beside x) s ∷ []) (λ s. (refl, tt)) (subschema x (at (codes "additionalProperties")) (object ms))
+    refusing false s = (refl, refl)
+of_other_members x (number n) = tt
+of_other_members x (string s) = tt
+of_other_members x (array ds) = tt
+of_other_members x (object ms) =
+    of_row (codes "additionalProperties") (λ s. s ∷ []) (λ s. additional_properties (declared_beside x) s ∷ []) (λ s. ((refl, refl), tt)) (subschema x (at (codes "additionalProperties")) (object ms))
 
 of_pattern : (x : Context) (o : Option (List ℕ)) → AreOf (codes "pattern") (pattern_row x (codes "pattern") o)
 of_pattern x None = tt
@@ -326,7 +337,7 @@ of_pattern x (Some p) = by (is_made x p)
 of_patterns : (x : Context) (d : Data) → AreOf (codes "patternProperties") (pattern_properties_row x (codes "patternProperties") d)
 of_patterns x d =
     let k = codes "patternProperties" in
-    of_causes k (patterns_wrong x k (names_of_object (Some d))) (schema_map x k pattern_properties d) (of_map x k pattern_properties (λ ps. refl) d)
+    of_causes k (patterns_wrong x k (names_of_object (Some d))) (schema_map x k pattern_properties d) (of_map x k pattern_properties (λ ps. (refl, refl)) d)
 
 of_names : (x : Context) (d : Data) → AreOf (codes "propertyNames") (property_names_row x (codes "propertyNames") d)
 of_names x null = tt
@@ -344,7 +355,7 @@ abbrev ◌&◌ : {A B : Type 0} → A → B → A × B
 h & hs = (h, hs)
 
 -- the row of each reader is under its name
-each_reader : (x : Context) (d : Data) → AllByRecursion (λ r. AreUnder x r.0 (r.1 x r.0 d)) readers
+each_reader : (x : Context) (d : Data) → AllByRecursion (λ r. RowIsRead x r.0 (r.1 x r.0 d)) readers
 unfolding escape
 each_reader x d =
     let old = is_draft_4 x.site.dialect.draft in
@@ -377,7 +388,7 @@ each_reader x d =
     & of_bound x (codes "maxContains") d
     & own old (codes "properties") refl refl _ (of_map x (codes "properties") properties (λ ps. refl) d)
     & own old (codes "patternProperties") refl refl _ (of_patterns x d)
-    & own old (codes "additionalProperties") refl refl _ (of_others x d)
+    & own old (codes "additionalProperties") refl refl _ (of_other_members x d)
     & own old (codes "propertyNames") refl refl _ (of_names x d)
     & own old (codes "dependentSchemas") refl refl _ (of_map x (codes "dependentSchemas") dependent_schemas (λ ps. refl) d)
     & own old (codes "dependencies") refl refl _ (of_dependencies x d)
@@ -393,18 +404,35 @@ each_reader x d =
     & tt
 
 -- what is none of their names has no row
-of_readers : (x : Context) (k : List ℕ) (d : Data) (rs : List (List ℕ × Reader)) → AllByRecursion (λ r. AreUnder x r.0 (r.1 x r.0 d)) rs → AreUnder x k (read_among rs x k d)
+of_readers : (x : Context) (k : List ℕ) (d : Data) (rs : List (List ℕ × Reader)) → AllByRecursion (λ r. RowIsRead x r.0 (r.1 x r.0 d)) rs → RowIsRead x k (read_among rs x k d)
 of_readers x k d [] h = tt
 of_readers x k d (r ∷ rs) h = by (bytes_eq r.0 k) refl (of_readers x k d rs h.1)
   where
-    by : (b : Bool) → bytes_eq r.0 k ≡ b → AreUnder x k (read_among rs x k d) → AreUnder x k (if b then r.1 x k d else read_among rs x k d)
-    by true e rest = subst (λ n. AreUnder x n (r.1 x n d)) ((bytes_eq-Decides r.0 k).0 e) h.0
+    by : (b : Bool) → bytes_eq r.0 k ≡ b → RowIsRead x k (read_among rs x k d) → RowIsRead x k (if b then r.1 x k d else read_among rs x k d)
+    by true e rest = subst (λ n. RowIsRead x n (r.1 x n d)) ((bytes_eq-Decides r.0 k).0 e) h.0
     by false e rest = rest
+
+-- the row of a member
+row_is_read : (x : Context) (k : List ℕ) (d : Data) → RowIsRead x k (row_at x k d)
+row_is_read x k d = by (counts_here x k)
+  where
+    by : (b : Bool) → RowIsRead x k (if b then read_among readers x k d else nothing_read)
+    by true = of_readers x k d readers (each_reader x d)
+    by false = tt
+
+module _ (b : Bool) (k : List ℕ) where
+  all_under : (shapes : List (Shape Site)) → AreRead b k shapes → AllByRecursion (IsUnder b k) shapes
+  all_under [] h = tt
+  all_under (s ∷ shapes) h = (h.0.0, all_under shapes h.1)
+
+  all_patterns : (shapes : List (Shape Site)) → AreRead b k shapes → AllByRecursion (HasPatternsBy k) shapes
+  all_patterns [] h = tt
+  all_patterns (s ∷ shapes) h = (h.0.1, all_patterns shapes h.1)
 
 -- the shapes of a member
 pub shapes_are_under : (x : Context) (k : List ℕ) (d : Data) → AreUnder x k (row_at x k d)
-shapes_are_under x k d = by (counts_here x k)
-  where
-    by : (b : Bool) → AreUnder x k (if b then read_among readers x k d else nothing_read)
-    by true = of_readers x k d readers (each_reader x d)
-    by false = tt
+shapes_are_under x k d = all_under (is_draft_4 x.site.dialect.draft) k (row_at x k d).shapes (row_is_read x k d)
+
+-- they have patterns by its name
+pub shapes_have_patterns : (x : Context) (k : List ℕ) (d : Data) → AllByRecursion (HasPatternsBy k) (row_at x k d).shapes
+shapes_have_patterns x k d = all_patterns (is_draft_4 x.site.dialect.draft) k (row_at x k d).shapes (row_is_read x k d)

@@ -3,7 +3,7 @@ use Rattle.std.specs.Prelude.{◌≡◌, ◌==◌, ℕ, List, [], ◌∷◌, Boo
 use Rattle.std.specs.List.{slice_split}
 use Rattle.json_values.specs.Pointers.{escape}
 use Rattle.schema_meaning.specs.Members.{In}
-use Rattle.schema_meaning.specs.Keywords.{named, reference_name, Shape, never, asserts, items, item_list, prefix_items, additional_items, no_additional_items, contains, properties, pattern_properties, additional_properties, no_additional_properties, no_properties, property_names, no_property_names, dependent_schemas, dependencies, all_of, any_of, one_of, negation, condition, reference}
+use Rattle.schema_meaning.specs.Keywords.{named, reference_name, Form, by_pattern, of_others, of_condition, Shape, never, asserts, asks_every, asks_together, asks_names, asks_some, asks_one, asks_no, contains, condition, reference}
 
 -- nothing is left, or a part is
 pub data IsRest : List ℕ → Type 0 where
@@ -18,29 +18,36 @@ abbrev pub cuts_behind : List ℕ → List (List ℕ)
 cuts_behind [] = []
 cuts_behind (b ∷ t) = cuts t
 
+-- what is asked under the name of its keyword alone: the questions of `then` and `else` have names of their own
+abbrev pub IsAskedBy : {S : Type 0} → List ℕ → List ℕ → Form S → Type 0
+IsAskedBy k name (of_condition s t e) = ⊥
+IsAskedBy k name form = name ≡ k
+
+-- what goes by patterns is asked by these keywords alone
+abbrev pub AsksPatternsBy : {S : Type 0} → List ℕ → Form S → Type 0
+AsksPatternsBy k (by_pattern ps) = codes "patternProperties" ≡ k
+AsksPatternsBy k (of_others declared s) = codes "additionalProperties" ≡ k
+AsksPatternsBy k form = Unit {0}
+
+-- a shape of a member of that name has patterns by it
+abbrev pub HasPatternsBy : {S : Type 0} → List ℕ → Shape S → Type 0
+HasPatternsBy k (asks_every name form) = AsksPatternsBy k form
+HasPatternsBy k (asks_together name form) = AsksPatternsBy k form
+HasPatternsBy k (asks_some name form) = AsksPatternsBy k form
+HasPatternsBy k (asks_one name form) = AsksPatternsBy k form
+HasPatternsBy k shape = Unit {0}
+
 -- a shape of one of the keywords that are read and refuse under one name, by that
 abbrev pub IsOf : {S : Type 0} → List ℕ → Shape S → Type 0
 IsOf k never = ⊥
 IsOf k (asserts a) = named a ≡ k
-IsOf k (items start s) = codes "items" ≡ k
-IsOf k (item_list ss) = codes "items" ≡ k
-IsOf k (prefix_items ss) = codes "prefixItems" ≡ k
-IsOf k (additional_items start s) = codes "additionalItems" ≡ k
-IsOf k (no_additional_items start s) = codes "additionalItems" ≡ k
+IsOf k (asks_every name form) = IsAskedBy k name form
+IsOf k (asks_together name form) = IsAskedBy k name form
+IsOf k (asks_names name s) = name ≡ k
+IsOf k (asks_some name form) = IsAskedBy k name form
+IsOf k (asks_one name form) = IsAskedBy k name form
+IsOf k (asks_no name schema s) = name ≡ k
 IsOf k (contains s least most) = ⊥
-IsOf k (properties ps) = codes "properties" ≡ k
-IsOf k (pattern_properties ps) = codes "patternProperties" ≡ k
-IsOf k (additional_properties declared s) = codes "additionalProperties" ≡ k
-IsOf k (no_additional_properties declared s) = codes "additionalProperties" ≡ k
-IsOf k (no_properties s) = codes "additionalProperties" ≡ k
-IsOf k (property_names s) = codes "propertyNames" ≡ k
-IsOf k (no_property_names s) = codes "propertyNames" ≡ k
-IsOf k (dependent_schemas ps) = codes "dependentSchemas" ≡ k
-IsOf k (dependencies ps) = codes "dependencies" ≡ k
-IsOf k (all_of ss) = codes "allOf" ≡ k
-IsOf k (any_of ss) = codes "anyOf" ≡ k
-IsOf k (one_of ss) = codes "oneOf" ≡ k
-IsOf k (negation schema s) = codes "not" ≡ k
 IsOf k (condition s t e) = ⊥
 IsOf k (reference r s) = reference_name r ≡ k
 
@@ -55,27 +62,15 @@ choice_names = codes "if" ∷ codes "then" ∷ codes "else" ∷ []
 abbrev pub Bears : {S : Type 0} → List ℕ → Shape S → Type 0
 Bears k never = ⊥
 Bears k (asserts a) = named a ≡ k
-Bears k (items start s) = IsOf k (items start s)
-Bears k (item_list ss) = IsOf k (item_list ss)
-Bears k (prefix_items ss) = IsOf k (prefix_items ss)
-Bears k (additional_items start s) = IsOf k (additional_items start s)
-Bears k (no_additional_items start s) = IsOf k (no_additional_items start s)
+Bears k (asks_every name form) = IsAskedBy k name form
+Bears k (asks_together name form) = IsAskedBy k name form
+Bears k (asks_names name s) = name ≡ k
+Bears k (asks_some name form) = IsAskedBy k name form
+Bears k (asks_one name form) = IsAskedBy k name form
+Bears k (asks_no name schema s) = name ≡ k
 Bears k (contains s least most) = In k count_names
-Bears k (properties ps) = IsOf k (properties ps)
-Bears k (pattern_properties ps) = IsOf k (pattern_properties ps)
-Bears k (additional_properties declared s) = IsOf k (additional_properties declared s)
-Bears k (no_additional_properties declared s) = IsOf k (no_additional_properties declared s)
-Bears k (no_properties s) = IsOf k (no_properties s)
-Bears k (property_names s) = IsOf k (property_names s)
-Bears k (no_property_names s) = IsOf k (no_property_names s)
-Bears k (dependent_schemas ps) = IsOf k (dependent_schemas ps)
-Bears k (dependencies ps) = IsOf k (dependencies ps)
-Bears k (all_of ss) = IsOf k (all_of ss)
-Bears k (any_of ss) = IsOf k (any_of ss)
-Bears k (one_of ss) = IsOf k (one_of ss)
-Bears k (negation schema s) = IsOf k (negation schema s)
 Bears k (condition s t e) = In k choice_names
-Bears k (reference r s) = IsOf k (reference r s)
+Bears k (reference r s) = reference_name r ≡ k
 
 abbrev pub is_bound : List ℕ → Bool
 is_bound n = bytes_eq n (codes "minContains") || bytes_eq n (codes "maxContains")

@@ -6,7 +6,7 @@ use Rattle.serde_json.specs.Data.{Data, Members, no_members, member}
 use Rattle.serde_json.specs.View.{members_view}
 use Rattle.json_values.specs.Parts.{Part}
 use Rattle.schema_meaning.specs.Members.{In, first, later}
-use Rattle.schema_meaning.specs.Keywords.{Shape, asserts, pattern}
+use Rattle.schema_meaning.specs.Keywords.{Shape, asserts, asks_every, pattern}
 use Rattle.schema_definitions.specs.Bearers.{Document, Documents}
 use Rattle.schema_definitions.specs.Rows.{BuildCause, Row, member_names, rows_at}
 use Rattle.schema_definitions.specs.Sites.{Site, below}
@@ -85,33 +85,21 @@ names-of site k no_members = refl
 names-of site k (member n d ms) = ap (λ ns. n ∷ ns) (names-of site k ms)
 
 module _ (site : List Part → Data → Site) (k p : List ℕ) where
+  form-shown : (f : lent.Asks) → In p (patterns_asked f) → In p (patterns_of (asks_every k (form_by site k f)))
+  form-shown (asks.MatchingMembers schemas) i = subst (λ ns. In p ns) (sym (names-of site k (members_view schemas.now.entries))) i
+  form-shown (asks.OtherMembers declared schema) i = i
+  form-shown f i = none-in i
+
   pub asked-shown : (c : Combining) (f : lent.Asks) → stands k c (bare f) ≡ true → In p (patterns_asked f) → In p (patterns_of (shape_by k c (form_by site k f)))
-  asked-shown combining.Every (asks.MatchingMembers schemas) e i = subst (λ ns. In p ns) (sym (names-of site k (members_view schemas.now.entries))) i
-  asked-shown combining.Every (asks.OtherMembers declared schema) e i = i
-  asked-shown combining.Together (asks.OtherMembers declared schema) e i = i
-  asked-shown combining.Together (asks.MatchingMembers schemas) e i = absurd (true≢false (sym e))
-  asked-shown combining.EachNamed (asks.MatchingMembers schemas) e i = absurd (true≢false (sym e))
-  asked-shown combining.SomeBranch (asks.MatchingMembers schemas) e i = absurd (true≢false (sym e))
-  asked-shown combining.OneBranch (asks.MatchingMembers schemas) e i = absurd (true≢false (sym e))
-  asked-shown combining.Refusal (asks.MatchingMembers schemas) e i = absurd (true≢false (sym e))
-  asked-shown (combining.Counted least most) (asks.MatchingMembers schemas) e i = absurd (true≢false (sym e))
-  asked-shown combining.Conditional (asks.MatchingMembers schemas) e i = absurd (true≢false (sym e))
-  asked-shown combining.EachNamed (asks.OtherMembers declared schema) e i = absurd (true≢false (sym e))
-  asked-shown combining.SomeBranch (asks.OtherMembers declared schema) e i = absurd (true≢false (sym e))
-  asked-shown combining.OneBranch (asks.OtherMembers declared schema) e i = absurd (true≢false (sym e))
-  asked-shown combining.Refusal (asks.OtherMembers declared schema) e i = absurd (true≢false (sym e))
-  asked-shown (combining.Counted least most) (asks.OtherMembers declared schema) e i = absurd (true≢false (sym e))
-  asked-shown combining.Conditional (asks.OtherMembers declared schema) e i = absurd (true≢false (sym e))
-  asked-shown c (asks.ItemsFrom start schema) e i = none-in i
-  asked-shown c (asks.ItemByItem schemas) e i = none-in i
-  asked-shown c (asks.DeclaredMembers schemas) e i = none-in i
-  asked-shown c (asks.Members schema) e i = none-in i
-  asked-shown c (asks.Names schema) e i = none-in i
-  asked-shown c (asks.Triggered schemas) e i = none-in i
-  asked-shown c (asks.Dependencies entries) e i = none-in i
-  asked-shown c (asks.Branches schemas) e i = none-in i
-  asked-shown c (asks.Value schema) e i = none-in i
-  asked-shown c (asks.Condition condition then_schema else_schema) e i = none-in i
+  asked-shown combining.Every f e i = form-shown f i
+  asked-shown combining.Together f e i = form-shown f i
+  asked-shown combining.SomeBranch f e i = form-shown f i
+  asked-shown combining.OneBranch f e i = form-shown f i
+  asked-shown combining.EachNamed (asks.Names schema) e i = none-in i
+  asked-shown combining.Refusal (asks.Value schema) e i = none-in i
+  asked-shown (combining.Counted least most) (asks.ItemsFrom start schema) e i = none-in i
+  asked-shown combining.Conditional (asks.Condition condition then_schema else_schema) e i = none-in i
+  asked-shown c f e i = absurd (true≢false (sym e))
 
 module _ (docs : Documents) (s : Site) where
   abbrev InShapes : read.Keyword → List ℕ → Type 0

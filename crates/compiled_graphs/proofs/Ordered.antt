@@ -1,17 +1,17 @@
 -- What is asked at a site, in order, and where roads go.
-use Rattle.std.proofs.Common.{◌≡◌, ◌⊎◌, ℕ, List, [], ◌∷◌, ◌++◌, Bool, true, false, Option, Some, None, IfSome, map, if◌then◌else◌, bytes_eq, codes, refl, sym, ap, subst, inl, inr}
+use Rattle.std.proofs.Common.{◌≡◌, ◌⊎◌, ℕ, List, [], ◌∷◌, ◌++◌, Bool, true, Option, Some, None, IfSome, map, refl, sym, ap, subst, inl, inr}
 use Rattle.std.specs.List.{AllByRecursion, AllZip, flat_map}
 use Rattle.std.specs.Borrow.{Bor}
 use Rattle.serde_json.specs.declared.value.Value.{Value}
 use Rattle.schema_meaning.specs.Members.{In}
-use Rattle.schema_meaning.specs.Keywords.{Shape, items, additional_items, item_list, prefix_items, condition}
+use Rattle.schema_meaning.specs.Keywords.{Shape, condition}
 use Rattle.schema_definitions.specs.Bearers.{Document}
 use Rattle.schema_definitions.specs.BuildCauses.{Reached, at_root, by_keyword, causes_at}
 use Rattle.schema_definitions.specs.Rows.{BuildCause, Row, rows_at, identifier_causes}
 use Rattle.schema_definitions.specs.Sites.{Site, below}
 use Rattle.schema_definitions.specs.Words.{listed}
 use Rattle.linked_meanings.specs.Related.{RelatedIfAny, RelatedShape, related_condition}
-use Rattle.applicators.specs.Forms.{Form, each_from, by_index, of_names, of_branches, of_value, shape_by}
+use Rattle.applicators.specs.Forms.{Form, each_from, of_names, of_value, shape_by}
 use Rattle.applicators.specs.Combining.{counts_answers}
 use Rattle.applicators.specs.Shapes as applied
 use Rattle.applicators.specs.Applied.{name_of, combining_of, asks_of}
@@ -44,19 +44,14 @@ use Rattle.compiled_graphs.proofs.Visits.{met-among}
 
 -- ---- a keyword asks what its row does
 
-either-none : (b : Bool) (h g : Shape Site) → beside_if h ≡ [] → beside_if g ≡ [] → beside_if (if b then h else g) ≡ []
-either-none true h g e f = e
-either-none false h g e f = f
-
 -- only a condition has schemas beside
 no-beside : (k : List ℕ) (c : Combining) (form : Form Site) → counts_answers c ≡ true → beside_if (shape_by k c form) ≡ []
 no-beside k combining.Conditional form e = absurd (cc (e))
-no-beside k combining.Every (each_from start s) e = either-none (bytes_eq k (codes "items")) (items start s) (additional_items start s) refl refl
-no-beside k combining.Every (by_index ss) e = either-none (bytes_eq k (codes "items")) (item_list ss) (prefix_items ss) refl refl
-no-beside k combining.Together (each_from start s) e = refl
+no-beside k combining.Every form e = refl
+no-beside k combining.Together form e = refl
 no-beside k combining.EachNamed (of_names s) e = refl
-no-beside k combining.SomeBranch (of_branches ss) e = refl
-no-beside k combining.OneBranch (of_branches ss) e = refl
+no-beside k combining.SomeBranch form e = refl
+no-beside k combining.OneBranch form e = refl
 no-beside k combining.Refusal (of_value schema s) e = refl
 no-beside k (combining.Counted least most) (each_from start s) e = refl
 no-beside k c form e = refl

@@ -7,7 +7,7 @@ use Rattle.serde_json.specs.View.{view, items_view, members_view}
 use Rattle.serde_json.specs.declared.value.Value.{Value}
 use Rattle.json_values.specs.Parts.{Part, name, index}
 use Rattle.schema_meaning.specs.Members.{In, first, later}
-use Rattle.schema_meaning.specs.Keywords.{Dependency, needs, applies, Shape}
+use Rattle.schema_meaning.specs.Keywords.{Dependency, needs, applies, Form, Shape, asks_every}
 use Rattle.schema_meaning.specs.Linked.{Linked}
 use Rattle.schema_definitions.specs.Bearers.{Document, Documents}
 use Rattle.schema_definitions.specs.Rows.{Row, sites_named, sites_applied}
@@ -17,7 +17,7 @@ use Rattle.applicators.specs.Asks.{leads_by}
 use Rattle.applicators.specs.Lent as lent
 use Rattle.applicators.specs.Sites.{sites_of_list, sites_of_map, dependency_at, dependencies_in, site_of}
 use Rattle.applicators.specs.declared.asks.AsksOf.TheVariants as asks
-use Rattle.linked_meanings.specs.Related.{RelatedBeside, RelatedIfAny, RelatedDependency, related_needs, related_applies, RelatedEntry, RelatedShape, related_never, related_asserts, related_items, related_item_list, related_prefix_items, related_additional_items, related_no_additional_items, related_contains, related_properties, related_pattern_properties, related_additional_properties, related_no_additional_properties, related_no_properties, related_property_names, related_no_property_names, related_dependent_schemas, related_dependencies, related_all_of, related_any_of, related_one_of, related_negation, related_condition, related_reference}
+use Rattle.linked_meanings.specs.Related.{RelatedBeside, RelatedIfAny, RelatedDependency, related_needs, related_applies, RelatedEntry, RelatedForm, related_each_from, related_by_index, related_by_name, related_by_pattern, related_of_others, related_of_members, related_of_names, related_of_triggered, related_of_dependencies, related_of_branches, related_of_value, related_of_condition, RelatedShape, related_never, related_asserts, related_every, related_together, related_names, related_some, related_one, related_no, related_contains, related_condition, related_reference}
 use Rattle.linked_meanings.proofs.Composed.{shape_so}
 use Rattle.schema_engine.specs.Leads.{if_some, if_applies, subschemas_of, targets_of, leads_of}
 use Rattle.schema_sites.specs.Read.{shapes_of}
@@ -106,56 +106,40 @@ module _ {S : Type 0} (R : S → ℕ → Type 0) (m : ℕ) where
   of-any (Some s) None h i = none-in i
   of-any (Some s) (Some n) h i = of-one s n h i
 
+  of-choice : (s : S) (t : ℕ) (x c : Option S) (y d : Option ℕ) → R s t → RelatedIfAny R x y → RelatedIfAny R c d → In m (t ∷ (if_some y ++ if_some d)) → IsOfSome
+  of-choice s t x c y d r x_related c_related i =
+      of-both (λ j. of-one s t r j) (λ j. of-both (of-any x y x_related) (of-any c d c_related) (in-either (if_some y) (if_some d) j)) (in-either (t ∷ []) (if_some y ++ if_some d) i)
+
+  form-related : (k : List ℕ) (f : Form S) (g : Form ℕ) → RelatedForm R f g → In m (subschemas_of (asks_every k g)) → IsOfSome
+  form-related k f g (related_each_from {s = s} {t = t} r) i = of-one s t r i
+  form-related k f g (related_by_index {ss = ss} {ts = ts} r) i = of-list ss ts r i
+  form-related k f g (related_by_name {ps = ps} {qs = qs} r) i = of-named ps qs r i
+  form-related k f g (related_by_pattern {ps = ps} {qs = qs} r) i = of-named ps qs r i
+  form-related k f g (related_of_others {s = s} {t = t} r) i = of-one s t r i
+  form-related k f g (related_of_members {s = s} {t = t} r) i = of-one s t r i
+  form-related k f g (related_of_names {s = s} {t = t} r) i = of-one s t r i
+  form-related k f g (related_of_triggered {ps = ps} {qs = qs} r) i = of-named ps qs r i
+  form-related k f g (related_of_dependencies {ps = ps} {qs = qs} r) i = of-entries ps qs r i
+  form-related k f g (related_of_branches {ss = ss} {ts = ts} r) i = of-list ss ts r i
+  form-related k f g (related_of_value {s = s} {t = t} r) i = of-one s t r i
+  form-related k f g (related_of_condition {s = s} {t = t} {a = x} {c = c} {b = y} {d = d} r x_related c_related) i = of-choice s t x c y d r x_related c_related i
+
   pub subschema-related : (a : Shape S) (b : Shape ℕ) → RelatedShape R a b → In m (subschemas_of b) → IsOfSome
   subschema-related a b related_never i = none-in i
   subschema-related a b related_asserts i = none-in i
-  subschema-related a b (related_items {s = s} {t = t} r) i = of-one s t r i
-  subschema-related a b (related_item_list {ss = ss} {ts = ts} r) i = of-list ss ts r i
-  subschema-related a b (related_prefix_items {ss = ss} {ts = ts} r) i = of-list ss ts r i
-  subschema-related a b (related_additional_items {s = s} {t = t} r) i = of-one s t r i
-  subschema-related a b (related_no_additional_items {s = s} {t = t} r) i = of-one s t r i
+  subschema-related a b (related_every {k = k} {f = f} {g = g} r) i = form-related k f g r i
+  subschema-related a b (related_together {k = k} {f = f} {g = g} r) i = form-related k f g r i
+  subschema-related a b (related_names {s = s} {t = t} r) i = of-one s t r i
+  subschema-related a b (related_some {k = k} {f = f} {g = g} r) i = form-related k f g r i
+  subschema-related a b (related_one {k = k} {f = f} {g = g} r) i = form-related k f g r i
+  subschema-related a b (related_no {s = s} {t = t} r) i = of-one s t r i
   subschema-related a b (related_contains {s = s} {t = t} r) i = of-one s t r i
-  subschema-related a b (related_properties {ps = ps} {qs = qs} r) i = of-named ps qs r i
-  subschema-related a b (related_pattern_properties {ps = ps} {qs = qs} r) i = of-named ps qs r i
-  subschema-related a b (related_additional_properties {s = s} {t = t} r) i = of-one s t r i
-  subschema-related a b (related_no_additional_properties {s = s} {t = t} r) i = of-one s t r i
-  subschema-related a b (related_no_properties {s = s} {t = t} r) i = of-one s t r i
-  subschema-related a b (related_property_names {s = s} {t = t} r) i = of-one s t r i
-  subschema-related a b (related_no_property_names {s = s} {t = t} r) i = of-one s t r i
-  subschema-related a b (related_dependent_schemas {ps = ps} {qs = qs} r) i = of-named ps qs r i
-  subschema-related a b (related_dependencies {ps = ps} {qs = qs} r) i = of-entries ps qs r i
-  subschema-related a b (related_all_of {ss = ss} {ts = ts} r) i = of-list ss ts r i
-  subschema-related a b (related_any_of {ss = ss} {ts = ts} r) i = of-list ss ts r i
-  subschema-related a b (related_one_of {ss = ss} {ts = ts} r) i = of-list ss ts r i
-  subschema-related a b (related_negation {s = s} {t = t} r) i = of-one s t r i
-  subschema-related a b (related_condition {s = s} {t = t} {a = x} {c = c} {b = y} {d = d} r x_related c_related) i =
-      of-both (λ j. of-one s t r j) (λ j. of-both (of-any x y x_related) (of-any c d c_related) (in-either (if_some y) (if_some d) j)) (in-either (t ∷ []) (if_some y ++ if_some d) i)
+  subschema-related a b (related_condition {s = s} {t = t} {a = x} {c = c} {b = y} {d = d} r x_related c_related) i = of-choice s t x c y d r x_related c_related i
   subschema-related a b (related_reference r) i = none-in i
 
   pub target-related : (a : Shape S) (b : Shape ℕ) → RelatedShape R a b → In m (targets_of b) → IsOfSome
   target-related a b (related_reference {s = s} {t = t} r) i = of-one s t r i
-  target-related a b related_never i = none-in i
-  target-related a b related_asserts i = none-in i
-  target-related a b (related_items r) i = none-in i
-  target-related a b (related_item_list r) i = none-in i
-  target-related a b (related_prefix_items r) i = none-in i
-  target-related a b (related_additional_items r) i = none-in i
-  target-related a b (related_no_additional_items r) i = none-in i
-  target-related a b (related_contains r) i = none-in i
-  target-related a b (related_properties r) i = none-in i
-  target-related a b (related_pattern_properties r) i = none-in i
-  target-related a b (related_additional_properties r) i = none-in i
-  target-related a b (related_no_additional_properties r) i = none-in i
-  target-related a b (related_no_properties r) i = none-in i
-  target-related a b (related_property_names r) i = none-in i
-  target-related a b (related_no_property_names r) i = none-in i
-  target-related a b (related_dependent_schemas r) i = none-in i
-  target-related a b (related_dependencies r) i = none-in i
-  target-related a b (related_all_of r) i = none-in i
-  target-related a b (related_any_of r) i = none-in i
-  target-related a b (related_one_of r) i = none-in i
-  target-related a b (related_negation r) i = none-in i
-  target-related a b (related_condition r x y) i = none-in i
+  target-related a b r i = none-in i
 
   pub lead-related : (follows : Bool) (a : Shape S) (b : Shape ℕ) → RelatedShape R a b → In m (leads_of follows b) → IsOfSome
   lead-related true a b r i = target-related a b r i
@@ -183,24 +167,24 @@ module _ (docs : Documents) (s : Site) where
   abbrev applied_to : Dependency Site → List Site
   applied_to d = elim d [ needs names ↦ [] | applies x ↦ x ∷ [] ]
 
-  entry-below : (n : List ℕ) (d : Data) (t : Site) → In t (applied_to (dependency_at (below docs s) n d)) → IsBelow t
-  entry-below n (array ds) t j = none-in j
-  entry-below n null t j = subst IsBelow (sym (in-one j)) (one-below (name n) (name (codes "dependencies") ∷ []) null)
-  entry-below n (boolean b) t j = subst IsBelow (sym (in-one j)) (one-below (name n) (name (codes "dependencies") ∷ []) (boolean b))
-  entry-below n (number x) t j = subst IsBelow (sym (in-one j)) (one-below (name n) (name (codes "dependencies") ∷ []) (number x))
-  entry-below n (string x) t j = subst IsBelow (sym (in-one j)) (one-below (name n) (name (codes "dependencies") ∷ []) (string x))
-  entry-below n (object ms) t j = subst IsBelow (sym (in-one j)) (one-below (name n) (name (codes "dependencies") ∷ []) (object ms))
+  entry-below : (k n : List ℕ) (d : Data) (t : Site) → In t (applied_to (dependency_at (below docs s) k n d)) → IsBelow t
+  entry-below k n (array ds) t j = none-in j
+  entry-below k n null t j = subst IsBelow (sym (in-one j)) (one-below (name n) (name k ∷ []) null)
+  entry-below k n (boolean b) t j = subst IsBelow (sym (in-one j)) (one-below (name n) (name k ∷ []) (boolean b))
+  entry-below k n (number x) t j = subst IsBelow (sym (in-one j)) (one-below (name n) (name k ∷ []) (number x))
+  entry-below k n (string x) t j = subst IsBelow (sym (in-one j)) (one-below (name n) (name k ∷ []) (string x))
+  entry-below k n (object ms) t j = subst IsBelow (sym (in-one j)) (one-below (name n) (name k ∷ []) (object ms))
 
   both-below : (xs ys : List Site) (t : Site) → (In t xs → IsBelow t) → (In t ys → IsBelow t) → In t xs ⊎ In t ys → IsBelow t
   both-below xs ys t f g (inl i) = f i
   both-below xs ys t f g (inr i) = g i
 
-  entries-below : (ms : Members) (t : Site) → In t (sites_applied (dependencies_in (below docs s) ms)) → IsBelow t
-  entries-below no_members t j = none-in j
-  entries-below (member n d ms) t j =
-      let here = applied_to (dependency_at (below docs s) n d) in
-      let rest = sites_applied (dependencies_in (below docs s) ms) in
-      both-below here rest t (λ i. entry-below n d t i) (λ i. entries-below ms t i) (in-either here rest j)
+  entries-below : (k : List ℕ) (ms : Members) (t : Site) → In t (sites_applied (dependencies_in (below docs s) k ms)) → IsBelow t
+  entries-below k no_members t j = none-in j
+  entries-below k (member n d ms) t j =
+      let here = applied_to (dependency_at (below docs s) k n d) in
+      let rest = sites_applied (dependencies_in (below docs s) k ms) in
+      both-below here rest t (λ i. entry-below k n d t i) (λ i. entries-below k ms t i) (in-either here rest j)
 
   whole-below : (k : List ℕ) (d : Data) (t : Site) → In t (site_of (below docs s) k d ∷ []) → IsBelow t
   whole-below k d t j = subst IsBelow (sym (in-one j)) (one-below (name k) [] d)
@@ -214,7 +198,7 @@ module _ (docs : Documents) (s : Site) where
   leads-below k (asks.Members schema) t j = whole-below k (view schema.now) t j
   leads-below k (asks.Names schema) t j = whole-below k (view schema.now) t j
   leads-below k (asks.Triggered schemas) t j = map-below k (members_view schemas.now.entries) t j
-  leads-below k (asks.Dependencies entries) t j = entries-below (members_view entries.now.entries) t j
+  leads-below k (asks.Dependencies entries) t j = entries-below k (members_view entries.now.entries) t j
   leads-below k (asks.Branches schemas) t j = list-below k 0 (items_view schemas.now) t j
   leads-below k (asks.Value schema) t j = whole-below k (view schema.now) t j
   leads-below k (asks.Condition condition then_schema else_schema) t j = whole-below k (view condition.now) t j

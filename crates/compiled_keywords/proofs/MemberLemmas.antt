@@ -1,12 +1,11 @@
 -- Entries of compiled keywords, and what is asked of members, one after another.
-use Rattle.std.proofs.Common.{◌≡◌, ◌<◌, ◌+◌, ◌∙◌, ◌++◌, ℕ, List, [], ◌∷◌, map, drop, codes, length, get_or, true, false, Option, None, Some, is_some, option_map, refl, ap}
+use Rattle.std.proofs.Common.{◌≡◌, ◌<◌, ◌+◌, ◌∙◌, ◌++◌, ℕ, List, [], ◌∷◌, map, drop, length, get_or, true, false, Option, None, Some, is_some, option_map, refl, ap}
 use Rattle.std.proofs.lemmas.Option.{slice_get_read, slice_get-map}
 use Rattle.serde_json.specs.Data.{Data}
 use Rattle.serde_json.specs.Find.{get}
-use Rattle.schema_meaning.specs.Keywords.{Dependency, needs, applies, applied}
+use Rattle.schema_meaning.specs.Keywords.{Dependency, needs, applies, applied, each_dependency}
 use Rattle.schema_meaning.specs.Places.{stay, to_member}
 use Rattle.schema_meaning.specs.Questions.{question, at_name, if_member, each_declared, each_triggered}
-use Rattle.applicators.specs.Questions.{each_dependency}
 use Rattle.compiled_keywords.specs.Forms.{alone, name_at, named_part}
 use Rattle.compiled_keywords.specs.Members.{applied_node}
 use Rattle.compiled_keywords.specs.Owned.{named, depending}
@@ -44,23 +43,24 @@ module _ (k : List ℕ) (d : Data) (nodes : List NamedNode) (i : ℕ) (p : Named
 some_same : (t s : ℕ) → Some t ≡ Some s → t ≡ s
 some_same t s h = cc (h)
 
-unapplied : (d : Data) (name : List ℕ) (o : Option Data) (n : Dependency ℕ) → applied_node o n ≡ None → if_member o (λ e. applied name n) ≡ []
-unapplied d name None n none = refl
-unapplied d name (Some e) (needs names) none = refl
-unapplied d name (Some e) (applies s) none = absurd (cc (none))
+module _ (k : List ℕ) (name : List ℕ) where
+  unapplied : (o : Option Data) (n : Dependency ℕ) → applied_node o n ≡ None → if_member o (λ e. applied k name n) ≡ []
+  unapplied None n none = refl
+  unapplied (Some e) (needs names) none = refl
+  unapplied (Some e) (applies s) none = absurd (cc (none))
 
-applied_so : (d : Data) (name : List ℕ) (o : Option Data) (n : Dependency ℕ) (s : ℕ) → applied_node o n ≡ Some s → if_member o (λ e. applied name n) ≡ question s stay (at_name (codes "dependencies") name) ∷ []
-applied_so d name None n s h = absurd (cc (h))
-applied_so d name (Some e) (needs names) s h = absurd (cc (h))
-applied_so d name (Some e) (applies t) s h = ap (λ m. question m stay (at_name (codes "dependencies") name) ∷ []) (some_same t s h)
+  applied_so : (o : Option Data) (n : Dependency ℕ) (s : ℕ) → applied_node o n ≡ Some s → if_member o (λ e. applied k name n) ≡ question s stay (at_name k name) ∷ []
+  applied_so None n s h = absurd (cc (h))
+  applied_so (Some e) (needs names) s h = absurd (cc (h))
+  applied_so (Some e) (applies t) s h = ap (λ m. question m stay (at_name k name) ∷ []) (some_same t s h)
 
-module _ (d : Data) (entries : List NamedDependency) (i : ℕ) (p : NamedDependency) (short : i < length entries) (is : p ≡ get_or entries i p) where
-  next : map alone (each_dependency d (map depending (drop i entries))) ≡ map alone (if_member (get (depending p).0 d) (λ e. applied (depending p).0 (depending p).1) ++ each_dependency d (map depending (drop (i + 1) entries)))
-  next = ap (λ ps. map alone (each_dependency d (map depending ps))) (next_of i entries p short is)
+module _ (k : List ℕ) (d : Data) (entries : List NamedDependency) (i : ℕ) (p : NamedDependency) (short : i < length entries) (is : p ≡ get_or entries i p) where
+  next : map alone (each_dependency k d (map depending (drop i entries))) ≡ map alone (if_member (get (depending p).0 d) (λ e. applied k (depending p).0 (depending p).1) ++ each_dependency k d (map depending (drop (i + 1) entries)))
+  next = ap (λ ps. map alone (each_dependency k d (map depending ps))) (next_of i entries p short is)
 
-  pub unapplied_next : applied_node (get (depending p).0 d) (depending p).1 ≡ None → map alone (each_dependency d (map depending (drop i entries))) ≡ map alone (each_dependency d (map depending (drop (i + 1) entries)))
-  unapplied_next none = next ∙ ap (λ xs. map alone (xs ++ each_dependency d (map depending (drop (i + 1) entries)))) (unapplied d (depending p).0 (get (depending p).0 d) (depending p).1 none)
+  pub unapplied_next : applied_node (get (depending p).0 d) (depending p).1 ≡ None → map alone (each_dependency k d (map depending (drop i entries))) ≡ map alone (each_dependency k d (map depending (drop (i + 1) entries)))
+  unapplied_next none = next ∙ ap (λ xs. map alone (xs ++ each_dependency k d (map depending (drop (i + 1) entries)))) (unapplied k (depending p).0 (get (depending p).0 d) (depending p).1 none)
 
   pub applied_next : (s : ℕ) → applied_node (get (depending p).0 d) (depending p).1 ≡ Some s
-      → map alone (each_dependency d (map depending (drop i entries))) ≡ alone (question s stay (at_name (codes "dependencies") (depending p).0)) ∷ map alone (each_dependency d (map depending (drop (i + 1) entries)))
-  applied_next s there = next ∙ ap (λ xs. map alone (xs ++ each_dependency d (map depending (drop (i + 1) entries)))) (applied_so d (depending p).0 (get (depending p).0 d) (depending p).1 s there)
+      → map alone (each_dependency k d (map depending (drop i entries))) ≡ alone (question s stay (at_name k (depending p).0)) ∷ map alone (each_dependency k d (map depending (drop (i + 1) entries)))
+  applied_next s there = next ∙ ap (λ xs. map alone (xs ++ each_dependency k d (map depending (drop (i + 1) entries)))) (applied_so k (depending p).0 (get (depending p).0 d) (depending p).1 s there)

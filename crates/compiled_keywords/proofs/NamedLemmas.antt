@@ -14,7 +14,7 @@ use Rattle.schema_meaning.specs.Keywords.{rule}
 use Rattle.schema_meaning.specs.Members.{In, first, later, is_listed}
 use Rattle.schema_meaning.specs.Places.{to_member}
 use Rattle.schema_meaning.specs.Questions as told
-use Rattle.schema_meaning.specs.Questions.{Declared, is_declared, members_of, names_of, each_member, each_matching, other_members}
+use Rattle.schema_meaning.specs.Questions.{Declared, members_of, names_of, each_member, each_matching, other_members}
 use Rattle.schema_engine.specs.Matches.{Answers}
 use Rattle.schema_engine.specs.Questions.{Call, call}
 use Rattle.schema_engine.specs.Rules.{AreOf}
@@ -154,7 +154,7 @@ module _ (reads : Answers) (d : Data) (k : List ℕ) (c : Combining) (qs : List 
 -- as two compiled keywords ask
 pub leaves_beside : (reads : Answers) (d : Data) (one : Keyword) (a : Applicator) (qs : List Question) → Pairs one (keyword.Applicator a) → AreOf (rule reads d (shape_of one)) qs
     → LeaveOthers reads (form_of (asks_of a)) d qs
-leaves_beside reads d (keyword.Applicator b) a qs pairs are = leaves_others reads d b.keyword.now b.combining qs b.asks a.asks b.stands pairs are
+leaves_beside reads d (keyword.Applicator b) a qs pairs are = leaves_others reads d b.keyword.now b.combining qs b.asks a.asks b.stands pairs.beside are
 leaves_beside reads d one a qs pairs are = elim pairs [ ]
 
 -- no other keyword goes with one

@@ -22,7 +22,7 @@ use Rattle.compiled_keywords.specs.Applied.{asks_of}
 use Rattle.compiled_keywords.specs.Forms.{form_of, asked_beside}
 use Rattle.compiled_keywords.specs.Members.{matching_of, others_among}
 use Rattle.compiled_keywords.specs.Owned as owned
-use Rattle.compiled_keywords.specs.Paired.{AreBeside, member_call, matched_calls, unless_so, calls_of_member, calls_of_members, calls_of_both}
+use Rattle.compiled_keywords.specs.Paired.{wants_all, AreBeside, GoTogether, member_call, matched_calls, unless_so, calls_of_member, calls_of_members, calls_of_both}
 use Rattle.compiled_keywords.specs.Rules.{combination_by}
 use Rattle.compiled_keywords.specs.Shapes.{shape_of}
 use Rattle.compiled_keywords.specs.declared.applicator.Applicator.{Applicator}
@@ -231,32 +231,17 @@ module _ (reads : Answers) (d : Data) where
   abbrev IsForAll : Combining → Type 0
   IsForAll c = (ask : Call → Bool) (cs : List Call) → combined (combination_by c d) ask cs ≡ all ask cs
 
-  matching_for_all : (k : List ℕ) (c : Combining) (ps : List (List ℕ × ℕ)) → stands k c (by_pattern ps) ≡ true → IsForAll c
-  matching_for_all k combining.Every ps h = λ ask cs. refl
-  matching_for_all k combining.Together ps h = absurd (cc (h))
-  matching_for_all k combining.EachNamed ps h = absurd (cc (h))
-  matching_for_all k combining.SomeBranch ps h = absurd (cc (h))
-  matching_for_all k combining.OneBranch ps h = absurd (cc (h))
-  matching_for_all k combining.Refusal ps h = absurd (cc (h))
-  matching_for_all k (combining.Counted least most) ps h = absurd (cc (h))
-  matching_for_all k combining.Conditional ps h = absurd (cc (h))
-
-  others_for_all : (l : List ℕ) (c : Combining) (w : Declared) (s : ℕ) → stands l c (of_others w s) ≡ true → IsForAll c
-  others_for_all l combining.Every w s h = λ ask cs. refl
-  others_for_all l combining.Together w s h = λ ask cs. refl
-  others_for_all l combining.EachNamed w s h = absurd (cc (h))
-  others_for_all l combining.SomeBranch w s h = absurd (cc (h))
-  others_for_all l combining.OneBranch w s h = absurd (cc (h))
-  others_for_all l combining.Refusal w s h = absurd (cc (h))
-  others_for_all l (combining.Counted least most) w s h = absurd (cc (h))
-  others_for_all l combining.Conditional w s h = absurd (cc (h))
+  for_all : (c : Combining) → wants_all c ≡ true → IsForAll c
+  for_all combining.Every h = λ ask cs. refl
+  for_all combining.Together h = λ ask cs. refl
+  for_all c h = absurd (cc)
 
   answered_by : (k : List ℕ) (c : Combining) (f : Form ℕ) (qs : List (told.Question ℕ)) → stands k c f ≡ true → IsForAll c
       → questions_of (rule reads d (shape_by k c f)) ≡ calls qs → (ask : Call → Bool) → answered (rule reads d (shape_by k c f)) ask ≡ all ask (calls qs)
   answered_by k c f qs h every same ask =
       ap₂ (λ combination cs. combined combination ask cs) (combination_so reads d k c f (a_keyword k c f h)) same ∙ every ask (calls qs)
 
-  module _ (k l : List ℕ) (c e : Combining) (old new : List Question) where
+  module _ (k l : List ℕ) (c e : Combining) (first_all : wants_all c ≡ true) (second_all : wants_all e ≡ true) (old new : List Question) where
     both_pushed : (ps : List (List ℕ × ℕ)) (w : Declared) (s : ℕ) → stands k c (by_pattern ps) ≡ true → stands l e (of_others w s) ≡ true
         → Pushes old new (calls_of_members reads ps w s (members_of d))
         → PushesBoth old new (rule reads d (shape_by k c (by_pattern ps))) (rule reads d (shape_by l e (of_others w s)))
@@ -273,8 +258,8 @@ module _ (reads : Answers) (d : Data) where
           ];
           all = λ ask.
               ap (all ask) h.pushed ∙ all_of_both reads k l ps w s ask (members_of d)
-              ∙ sym (ap₂ (λ a b. a && b) (answered_by k c (by_pattern ps) ones one (matching_for_all k c ps one) asks ask)
-              (answered_by l e (of_others w s) others other (others_for_all l e w s other) asks_others ask));
+              ∙ sym (ap₂ (λ a b. a && b) (answered_by k c (by_pattern ps) ones one (for_all c first_all) asks ask)
+              (answered_by l e (of_others w s) others other (for_all e second_all) asks_others ask));
         }
 
     by_asks : (x y : Asks) → stands k c (form_of x) ≡ true → stands l e (form_of y) ≡ true → AreBeside x y
@@ -285,8 +270,8 @@ module _ (reads : Answers) (d : Data) where
     by_asks x y one other beside h = elim beside [ ]
 
   -- as two compiled keywords ask
-  pub pushed_beside : (a b : Applicator) (old new : List Question) → AreBeside (asks_of a) (asks_of b)
+  pub pushed_beside : (a b : Applicator) (old new : List Question) → GoTogether a b
       → Pushes old new (calls_of_both reads (form_of (asks_of a)) (form_of (asks_of b)) d)
       → PushesBoth old new (rule reads d (shape_of (keyword.Applicator a))) (rule reads d (shape_of (keyword.Applicator b)))
-  pushed_beside a b old new beside h =
-      by_asks a.keyword.now b.keyword.now a.combining b.combining old new a.asks b.asks a.stands b.stands beside h
+  pushed_beside a b old new go h =
+      by_asks a.keyword.now b.keyword.now a.combining b.combining go.first go.second old new a.asks b.asks a.stands b.stands go.beside h

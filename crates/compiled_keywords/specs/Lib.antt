@@ -12,5 +12,4 @@ pub mod Paired
 pub mod Rules
 pub mod Shapes
 pub mod Told
-pub mod Nodes
 pub mod Walked

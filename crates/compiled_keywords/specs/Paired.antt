@@ -9,9 +9,12 @@ use Rattle.schema_engine.specs.Matches.{Answers}
 use Rattle.schema_engine.specs.Questions.{Call}
 use Rattle.schema_engine.specs.declared.node.Together.{Together}
 use Rattle.applicators.specs.Forms.{Form, by_pattern, of_others}
-use Rattle.compiled_keywords.specs.Applied.{asks_of}
+use Rattle.applicators.specs.declared.combining.Combining.{Combining}
+use Rattle.applicators.specs.declared.combining.Combining.TheVariants as combining
+use Rattle.compiled_keywords.specs.Applied.{combining_of, asks_of}
 use Rattle.compiled_keywords.specs.Asked.{patterns_of}
 use Rattle.compiled_keywords.specs.Owned.{declared_by}
+use Rattle.compiled_keywords.specs.declared.applicator.Applicator.{Applicator}
 use Rattle.compiled_keywords.specs.declared.asks.Asks.{Asks}
 use Rattle.compiled_keywords.specs.declared.asks.Asks.TheVariants as code
 use Rattle.compiled_keywords.specs.declared.keyword.Keyword.{Keyword}
@@ -22,9 +25,20 @@ abbrev pub AreBeside : Asks → Asks → Type 0
 AreBeside (code.MatchingMembers nodes) (code.OtherMembers declared node) = patterns_of nodes.items ≡ (declared_by declared).patterns
 AreBeside one other = ⊥
 
--- by their names these are `patternProperties` and `additionalProperties`, and every answer has to be yes
+-- every answer has to be yes
+abbrev pub wants_all : Combining → Bool
+wants_all combining.Every = true
+wants_all combining.Together = true
+wants_all c = false
+
+-- so it is of both
+pub record GoTogether (a b : Applicator) : Type 0 where
+  pub first : wants_all (combining_of a) ≡ true
+  pub second : wants_all (combining_of b) ≡ true
+  pub beside : AreBeside (asks_of a) (asks_of b)
+
 abbrev pub Pairs : Keyword → Keyword → Type 0
-Pairs (keyword.Applicator a) (keyword.Applicator b) = AreBeside (asks_of a) (asks_of b)
+Pairs (keyword.Applicator a) (keyword.Applicator b) = GoTogether a b
 Pairs one other = ⊥
 
 -- two of a list that go together, at these positions

@@ -1,5 +1,5 @@
 //! Where in a compiled keyword the schemas of its questions stand.
-ghost use Rattle.std.specs.Prelude.{◌≡◌, map, codes};
+ghost use Rattle.std.specs.Prelude.{◌≡◌, map};
 ghost use Rattle.schema_engine.specs.Entries.{parts_of};
 ghost use Rattle.compiled_keywords.specs.Forms.{form_of, added_in, condition_at, name_at};
 ghost use Rattle.compiled_keywords.specs.Owned.{named, by_pattern, depending};
@@ -32,17 +32,15 @@ fn pattern_entry<'k>(keyword: &'k str, nodes: &'k [PatternNode], entry: usize) -
     }
 }
 
-fn dependency_entry<'k>(entries: &'k [NamedDependency], entry: usize) -> Entry<'k>
-    ensures { parts_of result ≡ name_at (codes "dependencies") (map depending entries.now) entry }
+fn dependency_entry<'k>(keyword: &'k str, entries: &'k [NamedDependency], entry: usize) -> Entry<'k>
+    ensures { parts_of result ≡ name_at keyword.now (map depending entries.now) entry }
 {
     match entries.get(entry) {
         Some(dependency) => Entry::Name {
-            keyword: "dependencies",
+            keyword,
             name: dependency.name.as_str(),
         },
-        None => Entry::Whole {
-            keyword: "dependencies",
-        },
+        None => Entry::Whole { keyword },
     }
 }
 
@@ -72,7 +70,7 @@ pub(crate) fn entry_of<'k>(keyword: &'k str, asks: &'k Asks, entry: usize) -> En
         Asks::DeclaredMembers(nodes) => named_entry(keyword, nodes, entry),
         Asks::MatchingMembers(nodes) => pattern_entry(keyword, nodes, entry),
         Asks::Triggered(nodes) => named_entry(keyword, nodes, entry),
-        Asks::Dependencies(entries) => dependency_entry(entries, entry),
+        Asks::Dependencies(entries) => dependency_entry(keyword, entries, entry),
         Asks::Condition { .. } => condition_entry(keyword, entry),
         _ => Entry::Whole { keyword },
     }

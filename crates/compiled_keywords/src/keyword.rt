@@ -34,7 +34,7 @@ use crate::patterns::is_matched;
 use crate::reasons::reason_of;
 use crate::rules::{combination_at, refused_under};
 use crate::subschemas::Pattern;
-use crate::together::{are_beside, push_both};
+use crate::together::{go_together, push_both};
 use schema_engine::asking::Asking;
 use schema_engine::combination::Combination;
 use schema_engine::entry::Entry;
@@ -259,7 +259,7 @@ impl Validate for Keyword {
     fn goes_with(&self, other: &Self) -> bool {
         match self {
             Keyword::Applicator(applicator) => match other {
-                Keyword::Applicator(beside) => are_beside(&applicator.asks, &beside.asks),
+                Keyword::Applicator(beside) => go_together(applicator, beside),
                 _ => false,
             },
             _ => false,

@@ -1,15 +1,15 @@
 //! The questions of compiled keywords about members.
-ghost use Rattle.std.specs.Prelude.{◌≡◌, ℕ, List, [], ◌∷◌, OnOk, OnErr, map, option_map, codes};
+ghost use Rattle.std.specs.Prelude.{◌≡◌, ℕ, List, [], ◌∷◌, OnOk, OnErr, map, option_map};
 ghost use Rattle.std.specs.List.{flat_map};
 ghost use Rattle.json_values.specs.Parts.{Part};
 ghost use Rattle.serde_json.specs.Find.{get};
 ghost use Rattle.serde_json.specs.View.{view};
+ghost use Rattle.schema_meaning.specs.Keywords.{each_dependency};
 ghost use Rattle.schema_meaning.specs.Questions.{at, at_name, members_of, names_of, other_members};
 ghost use Rattle.schema_meaning.specs.Questions.{each_declared, each_member, each_name, each_triggered};
 ghost use Rattle.schema_meaning.specs.Questions.{each_matching};
 ghost use Rattle.schema_engine.specs.Matches.{InEach};
 ghost use Rattle.schema_engine.specs.Places.{value_at};
-ghost use Rattle.applicators.specs.Questions.{each_dependency};
 ghost use Rattle.compiled_keywords.specs.Asked.{patterns_of, MayMatchNames};
 ghost use Rattle.compiled_keywords.specs.Forms.{alone, whole_at, name_at};
 ghost use Rattle.compiled_keywords.specs.Members.{listed, members_in, matching_of, others_among, applied_node};
@@ -116,9 +116,8 @@ pub(crate) fn push_dependencies<'q, 'i: 'q>(
     place: Place<'i>,
     into: &mut Vec<Question<'q, 'i>>,
 ) -> Result<(), AllocError>
-    ensures { OnOk result (Puts (name_at (codes "dependencies")
-        (map depending entries.now)) into.old.items into.new.items
-        (map alone (each_dependency (value_at place.entry) (map depending entries.now)))) }
+    ensures { OnOk result ((k : List ℕ) → Puts (name_at k (map depending entries.now)) into.old.items into.new.items
+        (map alone (each_dependency k (value_at place.entry) (map depending entries.now)))) }
 {
     for (index, entry) in entries.iter().enumerate() {
         if let Some(node) = applied_at(entry, place) {

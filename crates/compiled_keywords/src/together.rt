@@ -13,14 +13,16 @@ ghost use Rattle.compiled_keywords.specs.Asked.{patterns_of, MayMatchEach, MayMa
 ghost use Rattle.compiled_keywords.specs.Forms.{form_of};
 ghost use Rattle.compiled_keywords.specs.Members.{listed};
 ghost use Rattle.compiled_keywords.specs.Owned.{by_pattern, declared_by, text_of, AreNumbered};
-ghost use Rattle.compiled_keywords.specs.Paired.{AreBeside, StandTogether, matched_calls};
+ghost use Rattle.compiled_keywords.specs.Paired.{wants_all, AreBeside, GoTogether, StandTogether, matched_calls};
 ghost use Rattle.compiled_keywords.specs.Paired.{calls_of_member, calls_of_members, calls_of_both};
 ghost use Rattle.compiled_keywords.specs.Shapes.{KnowsAsked};
 
+use crate::applicator::Applicator;
 use crate::asks::{Asks, Declared};
 use crate::keyword::Keyword;
 use crate::members::object_at;
 use crate::subschemas::{Pattern, PatternNode};
+use applicators::combining::Combining;
 use schema_engine::matching::Matching;
 use schema_engine::node::Together;
 use schema_engine::place::{Asked, Place, Question};
@@ -50,8 +52,8 @@ fn has_patterns(nodes: &[PatternNode], patterns: &[Pattern]) -> bool
     true
 }
 
-/// Whether the questions of both can be pushed together.
-pub(crate) fn are_beside(asks: &Asks, others: &Asks) -> bool
+// Whether the patterns of the first are those that the second takes as declared.
+fn are_beside(asks: &Asks, others: &Asks) -> bool
     ensures { result ≡ true → AreBeside asks.now others.now }
 {
     match asks {
@@ -61,6 +63,20 @@ pub(crate) fn are_beside(asks: &Asks, others: &Asks) -> bool
         },
         _ => false,
     }
+}
+
+// Whether every answer has to be yes.
+const fn wants_all(combining: Combining) -> bool
+    ensures { result ≡ wants_all combining }
+{
+    matches!(combining, Combining::Every | Combining::Together)
+}
+
+/// Whether the questions of both can be pushed together.
+pub(crate) fn go_together(one: &Applicator, other: &Applicator) -> bool
+    ensures { result ≡ true → GoTogether one.now other.now }
+{
+    wants_all(one.combining) && wants_all(other.combining) && are_beside(&one.asks, &other.asks)
 }
 
 fn asks_matching(keyword: &Keyword) -> bool {

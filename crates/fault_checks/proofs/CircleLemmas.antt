@@ -168,7 +168,7 @@ name_back n k v there_it h = record {
         stands = λ t added. there_it.stands t added;
         matches = there_it.matches;
       } in
-      h.back x inner (child_meets n.walk.site v.site (view n.schema.now) (at (codes "propertyNames")) x s child meets right) (subst (IsStraight x inner) (sym there_it.value) straight);
+      h.back x inner (child_meets n.walk.site v.site (view n.schema.now) (at n.keyword.now) x s child meets right) (subst (IsStraight x inner) (sym there_it.value) straight);
 }
 
 -- from a root

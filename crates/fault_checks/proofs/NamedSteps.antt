@@ -1,5 +1,5 @@
 -- Steps by `propertyNames`, and walks at the names of an object.
-use Rattle.std.proofs.Common.{◌≡◌, ◌∙◌, ◌++◌, ◌<◌, ℕ, List, [], ◌∷◌, map, Bool, true, false, Bor, codes, refl, sym, ap, subst}
+use Rattle.std.proofs.Common.{◌≡◌, ◌∙◌, ◌++◌, ◌<◌, ℕ, List, [], ◌∷◌, map, Bool, true, false, Bor, refl, sym, ap, subst}
 use Rattle.serde_json.specs.Data.{Data, null, string, object, depth, Members, no_members, member}
 use Rattle.serde_json.specs.View.{view}
 use Rattle.serde_json.specs.declared.value.Value.{Value}
@@ -21,7 +21,6 @@ use Rattle.applicators.specs.Combining.{counts_answers}
 use Rattle.applicators.specs.Forms.{shape_by, stands}
 use Rattle.applicators.specs.declared.combining.Combining.{Combining}
 use Rattle.applicators.specs.declared.combining.Combining.TheVariants as combining
-use Rattle.std.proofs.lemmas.Slice.Eq.{bytes_eq-Decides}
 use Rattle.applicators.specs.Lent.{Asks}
 use Rattle.applicators.specs.declared.asks.AsksOf.TheVariants as asking
 use Rattle.applicators.specs.declared.question.Asked.TheVariants as asked
@@ -52,11 +51,8 @@ use Rattle.fault_checks.proofs.Going.{going_by, gone_by, name_text, not_named}
 
 -- ---- the keywords of names
 
-abbrev keyword : List ℕ
-keyword = codes "propertyNames"
-
 -- their questions, all of which oblige, and the name under which they refuse
-pub record AreOfNamesBy (k : List ℕ) (c : Combining) (f : Asks) (schema : Data) : Type 0 where
+pub record AreOfNamesBy (keyword k : List ℕ) (c : Combining) (f : Asks) (schema : Data) : Type 0 where
   pub led : (site : List Part → Data → Site) → In (site_of site keyword schema) (leads_by site k f)
   pub asked : (site : List Part → Data → Site) (matches : List ℕ → List ℕ → Bool) (d : Data)
       → asks (rule matches d (shape_by k c (form_by site k f))) ≡ each_name (at keyword) (site_of site keyword schema) (names_of d)
@@ -67,43 +63,35 @@ pub record AreOfNamesBy (k : List ℕ) (c : Combining) (f : Asks) (schema : Data
   pub named : (site : List Part → Data → Site) (n : List ℕ) → Bears n (shape_by k c (form_by site k f)) → keyword ≡ n
   pub counts : counts_answers c ≡ true
 
-abbrev pub AreOfNames : Applicator → Data → Type 0
-AreOfNames a schema = AreOfNamesBy (name_of a) (combining_of a) (asks_of a) schema
-
-of_each_name : (schema : Bor Value) → AreOfNamesBy keyword combining.EachNamed (asking.Names schema) (view schema.now)
-of_each_name schema = record {
-  led = λ site. first;
-  asked = λ site matches d. refl;
-  obliged_all = λ site matches d bs. refl;
-  own = λ site matches d bs. refl;
-  named = λ site k is. is;
-  counts = refl;
-}
-
-of_no_names : (schema : Bor Value) → AreOfNamesBy keyword combining.Together (asking.Names schema) (view schema.now)
-of_no_names schema = record {
-  led = λ site. first;
-  asked = λ site matches d. refl;
-  obliged_all = λ site matches d bs. refl;
-  own = λ site matches d bs. refl;
-  named = λ site k is. is;
-  counts = refl;
-}
+abbrev pub AreOfNames : List ℕ → Applicator → Data → Type 0
+AreOfNames keyword a schema = AreOfNamesBy keyword (name_of a) (combining_of a) (asks_of a) schema
 
 abbrev names_asked : Bor Value → Asks
 names_asked schema = asking.Names schema
 
-of_names : (k : List ℕ) (c : Combining) (schema : Bor Value) → stands k c (bare (names_asked schema)) ≡ true → AreOfNamesBy k c (asking.Names schema) (view schema.now)
-of_names k combining.Together schema h =
-    subst (λ (n : List ℕ). AreOfNamesBy n combining.Together (asking.Names schema) (view schema.now)) (sym ((bytes_eq-Decides k keyword).0 h)) (of_no_names schema)
-of_names k combining.EachNamed schema h =
-    subst (λ (n : List ℕ). AreOfNamesBy n combining.EachNamed (asking.Names schema) (view schema.now)) (sym ((bytes_eq-Decides k keyword).0 h)) (of_each_name schema)
+of_names : (k : List ℕ) (c : Combining) (schema : Bor Value) → stands k c (bare (names_asked schema)) ≡ true → AreOfNamesBy k k c (asking.Names schema) (view schema.now)
+of_names k combining.Together schema h = record {
+  led = λ site. first;
+  asked = λ site matches d. refl;
+  obliged_all = λ site matches d bs. refl;
+  own = λ site matches d bs. refl;
+  named = λ site k is. is;
+  counts = refl;
+}
+of_names k combining.EachNamed schema h = record {
+  led = λ site. first;
+  asked = λ site matches d. refl;
+  obliged_all = λ site matches d bs. refl;
+  own = λ site matches d bs. refl;
+  named = λ site k is. is;
+  counts = refl;
+}
 of_names k c schema h = absurd (cc)
 
 -- those that ask names
-pub are_of_names : (a : Applicator) (schema : Bor Value) → asks_of a ≡ asking.Names schema → AreOfNames a (view schema.now)
+pub are_of_names : (a : Applicator) (schema : Bor Value) → asks_of a ≡ asking.Names schema → AreOfNames (name_of a) a (view schema.now)
 are_of_names a schema is =
-    subst (λ (f : Asks). AreOfNamesBy (name_of a) (combining_of a) f (view schema.now)) (sym is)
+    subst (λ (f : Asks). AreOfNamesBy (name_of a) (name_of a) (combining_of a) f (view schema.now)) (sym is)
     (of_names (name_of a) (combining_of a) schema (subst (λ (f : Asks). stands (name_of a) (combining_of a) (bare f) ≡ true) is a.stands))
 
 pub asks_none : (f : Asks) → ((schema : Bor Value) → f ≡ asking.Names schema → ⊥) → are_names f ≡ false
@@ -115,9 +103,9 @@ asks_none f other = refl
 one_member : Data
 one_member = object (member [] null no_members)
 
-abbrev of_a_name : Bor Value → questions.Question
-of_a_name schema = record {
-  subschema = record { keyword = record { ref_ptr = (0, 0); now = keyword }; entry = entry.Whole; schema = schema };
+abbrev of_a_name : List ℕ → Bor Value → questions.Question
+of_a_name k schema = record {
+  subschema = record { keyword = record { ref_ptr = (0, 0); now = k }; entry = entry.Whole; schema = schema };
   asked = asked.Name (record { ref_ptr = (0, 0); now = [] });
 }
 
@@ -125,13 +113,17 @@ pub lies_inside : (c : seen.Site) (a : Applicator) (schema : Bor Value) → asks
 unfolding one_member
 lies_inside c a schema is each =
     let of = are_of_names a schema is in
-    question_inside (λ p t. false) a one_member (of_a_name schema ∷ []) (λ site. sym (of.asked site (λ p t. false) one_member)) of.counts (of_a_name schema) first c each
+    let asked = of_a_name (name_of a) schema in
+    question_inside (λ p t. false) a one_member (asked ∷ []) (λ site. sym (of.asked site (λ p t. false) one_member)) of.counts asked first c each
 
 -- ---- the step
 
-module _ (n : AtNames) (a : Applicator) (of : AreOfNames a (view n.schema.now)) (more : IsMore n.walk.instance n.evaluation) where
+module _ (n : AtNames) (a : Applicator) (of : AreOfNames n.keyword.now a (view n.schema.now)) (more : IsMore n.walk.instance n.evaluation) where
   abbrev d : Data
   d = view n.walk.value.now
+
+  abbrev keyword : List ℕ
+  keyword = n.keyword.now
 
   abbrev asks_it : Scene → Site → List ℕ → Question Site
   asks_it x s k = question (names_site x n s) (to_name k) (at keyword)
@@ -209,7 +201,7 @@ at_one_name n k v b there p = record {
         stands = λ t added. there.stands t added;
         matches = there.matches;
       } in
-      let here = child_meets n.walk.site v.site (view n.schema.now) (at keyword) x s child meets right in
+      let here = child_meets n.walk.site v.site (view n.schema.now) (at n.keyword.now) x s child meets right in
       let left : IsLeft x v inner ≡ IsLeftAt x n s k =
       ap (λ f. AreSpelled (reading_of x) inner f (text_left v.instance) (text_left v.evaluation)) there.value
       ∙ ap (λ t. AreSpelled (reading_of x) inner (string k) (text_left t) (text_left v.evaluation)) there.instance

@@ -14,12 +14,12 @@ use Rattle.applicators.specs.Shapes.{shape_of}
 use Rattle.applicators.specs.Combined.{name_of, combining_of, asks_of}
 use Rattle.applicators.specs.Applied as code
 use Rattle.applicators.specs.Asks.{form_by}
-use Rattle.applicators.specs.Forms.{Form, shape_by}
-use Rattle.applicators.proofs.FormLemmas.{IsKeyword, from_start, counted_items, chosen_by}
+use Rattle.applicators.specs.Forms.{Form, of_condition, counts_each, shape_by}
+use Rattle.applicators.proofs.FormLemmas.{IsKeyword, by_every, by_together, by_names, by_some, by_one, by_refusal, counted_items, chosen_by, each_counts, all_count, some_count}
 use Rattle.applicators.proofs.CombinedLemmas.{is_keyword}
 use Rattle.applicators.specs.declared.combining.Combining.{Combining}
 use Rattle.applicators.specs.declared.combining.Combining.TheVariants as combining
-use Rattle.certificate_laws.specs.Words.{Bears, IsUnder, member_of, count_names, choice_names}
+use Rattle.certificate_laws.specs.Words.{IsAskedBy, Bears, IsUnder, member_of, count_names, choice_names}
 use Rattle.certificate_laws.proofs.Named.{listed_in}
 use Rattle.fault_checks.specs.Passed.{Keyword, assertion_of, kind_of, row_of}
 use Rattle.fault_checks.specs.Passed.{Nothing, Assertion, Pattern, If, Consequent, Applicator, Reference}
@@ -76,56 +76,49 @@ module _ (old : Bool) (member n : List ℕ) where
   BearsBy k (combining.Counted least most) = In n count_names
   BearsBy k combining.Conditional = In n choice_names
 
-  named_by : (c : Combining) (k : List ℕ) (shape : Shape Site) → IsUnder old member shape → Bears k shape → member_of old k ≡ k → combining_bears c member n ≡ true → BearsBy k c
-  named_by combining.Every k shape u g own e = to_own k shape u g own e
-  named_by combining.Together k shape u g own e = to_own k shape u g own e
-  named_by combining.EachNamed k shape u g own e = to_own k shape u g own e
-  named_by combining.SomeBranch k shape u g own e = to_own k shape u g own e
-  named_by combining.OneBranch k shape u g own e = to_own k shape u g own e
-  named_by combining.Refusal k shape u g own e = to_own k shape u g own e
-  named_by (combining.Counted least most) k shape u g own e = listed_in n count_names e
-  named_by combining.Conditional k shape u g own e = listed_in n choice_names e
+  named_by : (c : Combining) (k : List ℕ) → combining_bears c k n ≡ true → BearsBy k c
+  named_by combining.Every k e = same_bytes k n e
+  named_by combining.Together k e = same_bytes k n e
+  named_by combining.EachNamed k e = same_bytes k n e
+  named_by combining.SomeBranch k e = same_bytes k n e
+  named_by combining.OneBranch k e = same_bytes k n e
+  named_by combining.Refusal k e = same_bytes k n e
+  named_by (combining.Counted least most) k e = listed_in n count_names e
+  named_by combining.Conditional k e = listed_in n choice_names e
 
-  bears_by : (c : Combining) (k : List ℕ) (shape : Shape Site) → IsUnder old member shape → Bears k shape → member_of old k ≡ k → BearsBy k c → combining_bears c member n ≡ true
-  bears_by combining.Every k shape u g own e = of_own k shape u g own e
-  bears_by combining.Together k shape u g own e = of_own k shape u g own e
-  bears_by combining.EachNamed k shape u g own e = of_own k shape u g own e
-  bears_by combining.SomeBranch k shape u g own e = of_own k shape u g own e
-  bears_by combining.OneBranch k shape u g own e = of_own k shape u g own e
-  bears_by combining.Refusal k shape u g own e = of_own k shape u g own e
-  bears_by (combining.Counted least most) k shape u g own e = in_listed n count_names e
-  bears_by combining.Conditional k shape u g own e = in_listed n choice_names e
+  bears_by : (c : Combining) (k : List ℕ) → BearsBy k c → combining_bears c k n ≡ true
+  bears_by combining.Every k e = bytes_same k n e
+  bears_by combining.Together k e = bytes_same k n e
+  bears_by combining.EachNamed k e = bytes_same k n e
+  bears_by combining.SomeBranch k e = bytes_same k n e
+  bears_by combining.OneBranch k e = bytes_same k n e
+  bears_by combining.Refusal k e = bytes_same k n e
+  bears_by (combining.Counted least most) k e = in_listed n count_names e
+  bears_by combining.Conditional k e = in_listed n choice_names e
 
-  own_member : (k : List ℕ) (c : Combining) (f : Form Site) → IsKeyword k c f → member_of old k ≡ k
-  own_member _ _ _ (from_start start s) = refl
-  own_member _ _ _ is = refl
-
-  bears_own : (k : List ℕ) (c : Combining) (f : Form Site) → IsKeyword k c f → Bears k (shape_by k c f)
-  bears_own _ _ _ (counted_items least most s) = first
-  bears_own _ _ _ (chosen_by s t e) = first
-  bears_own _ _ _ is = refl
+  as_asked : (k : List ℕ) (f : Form Site) → counts_each f ≡ true → IsAskedBy n k f ≡ (k ≡ n)
+  as_asked k (of_condition s t e) h = absurd (cc)
+  as_asked k f h = refl
 
   as_combined : (k : List ℕ) (c : Combining) (f : Form Site) → IsKeyword k c f → Bears n (shape_by k c f) ≡ BearsBy k c
-  as_combined _ _ _ (from_start start s) = refl
-  as_combined _ _ _ is = refl
+  as_combined _ _ _ (by_every k f h) = as_asked k f (each_counts f h)
+  as_combined _ _ _ (by_together k f h) = as_asked k f (all_count f h)
+  as_combined _ _ _ (by_names k s) = refl
+  as_combined _ _ _ (by_some k f h) = as_asked k f (some_count f h)
+  as_combined _ _ _ (by_one k f h) = as_asked k f (some_count f h)
+  as_combined _ _ _ (by_refusal k schema s) = refl
+  as_combined _ _ _ (counted_items least most s) = refl
+  as_combined _ _ _ (chosen_by s t e) = refl
 
   module _ (site : List Part → Data → Site) (a : code.Applicator) where
-    abbrev form : Form Site
-    form = form_by site (name_of a) (asks_of a)
+    same_bears : Bears n (shape_of site a) ≡ BearsBy (name_of a) (combining_of a)
+    same_bears = as_combined (name_of a) (combining_of a) (form_by site (name_of a) (asks_of a)) (is_keyword site a)
 
-    applied_named : IsUnder old member (shape_of site a) → applicator_bears a member n ≡ true → Bears n (shape_of site a)
-    applied_named u e =
-        let k = name_of a in
-        let c = combining_of a in
-        let is = is_keyword site a in
-        subst (λ (T : Type 0). T) (sym (as_combined k c form is)) (named_by c k (shape_of site a) u (bears_own k c form is) (own_member k c form is) e)
+    applied_named : applicator_bears a n ≡ true → Bears n (shape_of site a)
+    applied_named e = subst (λ (T : Type 0). T) (sym same_bears) (named_by (combining_of a) (name_of a) e)
 
-    applied_bears : IsUnder old member (shape_of site a) → Bears n (shape_of site a) → applicator_bears a member n ≡ true
-    applied_bears u g =
-        let k = name_of a in
-        let c = combining_of a in
-        let is = is_keyword site a in
-        bears_by c k (shape_of site a) u (bears_own k c form is) (own_member k c form is) (subst (λ (T : Type 0). T) (as_combined k c form is) g)
+    applied_bears : Bears n (shape_of site a) → applicator_bears a n ≡ true
+    applied_bears g = bears_by (combining_of a) (name_of a) (subst (λ (T : Type 0). T) same_bears g)
 
   -- the shapes of a keyword that may refuse under the name
   pub own_named : (k : Keyword) (docs : Documents) (s : Site) → AllByRecursion (IsUnder old member) (row_of docs s k).shapes → bears k member n ≡ true
@@ -135,7 +128,7 @@ module _ (old : Bool) (member n : List ℕ) where
   own_named (Pattern p) docs s h e = (owned _ h.0 (to_own (codes "pattern") _ h.0 refl refl e), tt)
   own_named (If schema then_schema else_schema) docs s h e = (owned _ h.0 (listed_in n choice_names e), tt)
   own_named (Consequent k schema) docs s h e = tt
-  own_named (Applicator a) docs s h e = (owned _ h.0 (applied_named (below docs s) a h.0 e), tt)
+  own_named (Applicator a) docs s h e = (owned _ h.0 (applied_named (below docs s) a e), tt)
   own_named (Reference by text target) docs s h e =
       (owned _ h.0 (to_own (reference_name (kind_of by)) _ h.0 refl (reference_member (kind_of by)) e), tt)
 
@@ -150,7 +143,7 @@ module _ (old : Bool) (member n : List ℕ) where
   named_own (If schema then_schema else_schema) docs s _ first h g = in_listed n choice_names g
   named_own (If schema then_schema else_schema) docs s shape (later i) h g = elim i [ ]
   named_own (Consequent k schema) docs s shape i h g = elim i [ ]
-  named_own (Applicator a) docs s _ first h g = applied_bears (below docs s) a h.0 g
+  named_own (Applicator a) docs s _ first h g = applied_bears (below docs s) a g
   named_own (Applicator a) docs s shape (later i) h g = elim i [ ]
   named_own (Reference by text target) docs s _ first h g = of_own (reference_name (kind_of by)) _ h.0 refl (reference_member (kind_of by)) g
   named_own (Reference by text target) docs s shape (later i) h g = elim i [ ]

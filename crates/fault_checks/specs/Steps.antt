@@ -1,5 +1,5 @@
 -- What a step of a walk comes to.
-use Rattle.std.specs.Prelude.{◌≡◌, ◌++◌, ◌<◌, ◌≤◌, ℕ, List, map, [], ◌∷◌, Option, None, length, Bool, true, false, codes}
+use Rattle.std.specs.Prelude.{◌≡◌, ◌++◌, ◌<◌, ◌≤◌, ℕ, List, map, [], ◌∷◌, Option, None, length, Bool, true, false}
 use Rattle.std.specs.Borrow.{Bor}
 use Rattle.serde_json.specs.Data.{Data, boolean, string}
 use Rattle.serde_json.specs.View.{view}
@@ -40,7 +40,7 @@ pub record GoesOn (x : Scene) (s : Site) (d : Data) (P : Type 0) (w : Walk) : Ty
 
 -- the site of the schema of names
 abbrev pub names_site : Scene → AtNames → Site → Site
-names_site x n s = below x.documents s (at (codes "propertyNames")) (view n.schema.now)
+names_site x n s = below x.documents s (at n.keyword.now) (view n.schema.now)
 
 -- what is left is spelled from there at a name; at some name of the object
 abbrev pub IsLeftAt : Scene → AtNames → Site → List ℕ → Type 0

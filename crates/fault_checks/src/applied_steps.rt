@@ -118,6 +118,7 @@ pub fn through_applicator<'r, 'i, 'p>(
     match applicator.asks() {
         Asks::Names(schema) => Ok(Step::Named(AtNames {
             walk,
+            keyword: applicator.name(),
             schema,
             evaluation: after,
         })),

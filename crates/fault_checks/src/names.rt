@@ -24,13 +24,13 @@ pub(crate) fn member_of<'p>(site: &Site<'_>, name: &'p str) -> &'p str
     }
 }
 
-fn applicator_bears(applicator: &Applicator<'_>, member: &str, name: &str) -> bool
-    ensures { result ≡ naming.applicator_bears applicator.now member.now name.now }
+fn applicator_bears(applicator: &Applicator<'_>, name: &str) -> bool
+    ensures { result ≡ naming.applicator_bears applicator.now name.now }
 {
     match applicator.combining() {
         Combining::Counted { .. } => matches!(name, "contains" | "minContains" | "maxContains"),
         Combining::Conditional => matches!(name, "if" | "then" | "else"),
-        _ => member == name,
+        _ => applicator.name() == name,
     }
 }
 
@@ -41,7 +41,7 @@ pub(crate) fn bears(keyword: &Keyword<'_>, member: &str, name: &str) -> bool
     match keyword {
         Keyword::Assertion(assertion) => assertion.name() == name,
         Keyword::If { .. } => matches!(name, "if" | "then" | "else"),
-        Keyword::Applicator(applicator) => applicator_bears(applicator, member, name),
+        Keyword::Applicator(applicator) => applicator_bears(applicator, name),
         _ => member == name,
     }
 }

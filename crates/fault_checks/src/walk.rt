@@ -18,11 +18,12 @@ pub struct Walk<'r, 'i, 'p> {
     ghost shallow: { depth (view site.contents.now) ≤ deepest (documents_at site) },
 }
 
-/// A walk that goes on at the names of an object, by a subschema of `propertyNames`.
+/// A walk that goes on at the names of an object, by the subschema of a keyword such as `propertyNames`.
 #[derive(Drop)]
 pub struct AtNames<'r, 'i, 'p> {
     /// The walk to the keyword, at the object.
     pub walk: Walk<'r, 'i, 'p>,
+    pub keyword: &'static str,
     pub schema: &'r Value,
     /// What is left of the path of the evaluation behind the keyword.
     pub evaluation: Option<&'p str>,

@@ -1,5 +1,5 @@
 -- The questions of applicators, one by one.
-use Rattle.std.proofs.Common.{◌≡◌, ◌∙◌, ◌+◌, ◌<◌, ℕ, zero, suc, List, [], ◌∷◌, map, Option, Some, None, length, Bool, true, false, cond, refl, sym, ap, arith, add-zero, codes}
+use Rattle.std.proofs.Common.{◌≡◌, ◌∙◌, ◌+◌, ◌<◌, ℕ, zero, suc, List, [], ◌∷◌, map, Option, Some, None, length, Bool, true, false, cond, refl, sym, ap, arith, add-zero}
 use Rattle.std.specs.List.{filter}
 use Rattle.serde_json.specs.Data.{Data, null, boolean, number, string, array, object, Items, no_items, item, Members, no_members, member}
 use Rattle.serde_json.specs.Find.{get, get_item, get_member}
@@ -71,22 +71,22 @@ module _ {S : Type 0} (k : List ℕ) (d : Data) where
   pub triggered_question : (ps : List (List ℕ × S)) (q : Question S) → In q (each_triggered k d ps) → (p : List ℕ × S) × In p ps × (q ≡ question p.1 stay (at_name k p.0))
   triggered_question ps q i = let w = in_some asks_there ps i in (w.0, w.1, one_there w.0 (get w.0.0 d) q w.2)
 
-module _ (d : Data) where
+module _ (k : List ℕ) (d : Data) where
   abbrev asks_entry : List ℕ × Dependency Site → List (Question Site)
-  asks_entry p = if_member (get p.0 d) (λ e. applied p.0 p.1)
+  asks_entry p = if_member (get p.0 d) (λ e. applied k p.0 p.1)
 
-  one_applied : (k : List ℕ) (x : Dependency Site) (q : Question Site) → In q (applied k x) → (s : Site) × (x ≡ applies s) × (q ≡ question s stay (at_name (codes "dependencies") k))
-  one_applied k (needs names) q i = elim i [ ]
-  one_applied k (applies s) q first = (s, refl, refl)
-  one_applied k (applies s) q (later i) = elim i [ ]
+  one_applied : (n : List ℕ) (x : Dependency Site) (q : Question Site) → In q (applied k n x) → (s : Site) × (x ≡ applies s) × (q ≡ question s stay (at_name k n))
+  one_applied n (needs names) q i = elim i [ ]
+  one_applied n (applies s) q first = (s, refl, refl)
+  one_applied n (applies s) q (later i) = elim i [ ]
 
-  one_entry : (k : List ℕ) (x : Dependency Site) (o : Option Data) (q : Question Site) → In q (if_member o (λ e. applied k x))
-      → (s : Site) × (x ≡ applies s) × (q ≡ question s stay (at_name (codes "dependencies") k))
-  one_entry k x None q i = elim i [ ]
-  one_entry k x (Some e) q i = one_applied k x q i
+  one_entry : (n : List ℕ) (x : Dependency Site) (o : Option Data) (q : Question Site) → In q (if_member o (λ e. applied k n x))
+      → (s : Site) × (x ≡ applies s) × (q ≡ question s stay (at_name k n))
+  one_entry n x None q i = elim i [ ]
+  one_entry n x (Some e) q i = one_applied n x q i
 
-  pub dependency_question : (ps : List (List ℕ × Dependency Site)) (q : Question Site) → In q (each_dependency d ps)
-      → (p : List ℕ × Dependency Site) × (s : Site) × In p ps × (p.1 ≡ applies s) × (q ≡ question s stay (at_name (codes "dependencies") p.0))
+  pub dependency_question : (ps : List (List ℕ × Dependency Site)) (q : Question Site) → In q (each_dependency k d ps)
+      → (p : List ℕ × Dependency Site) × (s : Site) × In p ps × (p.1 ≡ applies s) × (q ≡ question s stay (at_name k p.0))
   dependency_question ps q i =
       let w = in_some asks_entry ps i in
       let v = one_entry w.0.0 w.0.1 (get w.0.0 d) q w.2 in
@@ -156,9 +156,9 @@ module _ {S : Type 0} (matches : List ℕ → List ℕ → Bool) (k : List ℕ) 
       (w.0, v.0, w.1, among_kept (λ m. matched matches w.0.0 m.0) (members_of d) v.0 v.1, sym v.2)
 
 -- an entry of `dependencies` is that which its name finds
-pub entry_found : (site : List Part → Data → Site) (ms : Members) (p : List ℕ × Dependency Site) → are_rising ms ≡ true → In p (dependencies_in site ms)
-    → (c : Data) × (get_member p.0 ms ≡ Some c) × (p ≡ (p.0, dependency_at site p.0 c))
-entry_found site no_members p r i = elim i [ ]
-entry_found site (member n c ms) p r first = (c, get_same n n c ms refl, refl)
-entry_found site (member n c ms) p r (later i) =
-    let w = entry_found site ms p (rising_rest n ms r) i in (w.0, get_other p.0 n c ms (apart p.0 n ms w.0 r w.1) ∙ w.1, w.2)
+pub entry_found : (site : List Part → Data → Site) (k : List ℕ) (ms : Members) (p : List ℕ × Dependency Site) → are_rising ms ≡ true → In p (dependencies_in site k ms)
+    → (c : Data) × (get_member p.0 ms ≡ Some c) × (p ≡ (p.0, dependency_at site k p.0 c))
+entry_found site k no_members p r i = elim i [ ]
+entry_found site k (member n c ms) p r first = (c, get_same n n c ms refl, refl)
+entry_found site k (member n c ms) p r (later i) =
+    let w = entry_found site k ms p (rising_rest n ms r) i in (w.0, get_other p.0 n c ms (apart p.0 n ms w.0 r w.1) ∙ w.1, w.2)

@@ -1,5 +1,5 @@
 -- Of the questions of an applicator, texts lead to one at most.
-use Rattle.std.proofs.Common.{◌≡◌, ◌∙◌, ◌+◌, ◌<◌, ◌^◌, ◌∷◌, ℕ, List, [], Some, length, Bool, true, false, not, codes, refl, sym, ap, subst, arith}
+use Rattle.std.proofs.Common.{◌≡◌, ◌∙◌, ◌+◌, ◌<◌, ◌^◌, ◌∷◌, ℕ, List, [], Some, length, Bool, true, false, not, refl, sym, ap, subst, arith}
 use Rattle.serde_json.specs.Data.{Data, Members}
 use Rattle.serde_json.specs.Find.{get, get_item, get_member}
 use Rattle.serde_json.specs.Find as finding
@@ -138,27 +138,27 @@ module _ {S : Type 0} (k : List ℕ) (s : S) (d : Data) (rising : MembersRise d)
   others_once matches declared i j =
       members_once (other_members matches declared d) (λ m h. among_kept (λ n. not (is_declared matches declared n.0)) (members_of d) m h) i j
 
-module _ (site : List Part → Data → Site) (d : Data) (ms : Members) (rising : are_rising ms ≡ true) (q p : Question Site) (h : AreAlike q p) where
+module _ (site : List Part → Data → Site) (k : List ℕ) (d : Data) (ms : Members) (rising : are_rising ms ≡ true) (q p : Question Site) (h : AreAlike q p) where
   -- ---- the value by each entry of `dependencies`
 
-  same_entry : (x y : List ℕ × Dependency Site) → In x (dependencies_in site ms) → In y (dependencies_in site ms) → x.0 ≡ y.0 → x ≡ y
+  same_entry : (x y : List ℕ × Dependency Site) → In x (dependencies_in site k ms) → In y (dependencies_in site k ms) → x.0 ≡ y.0 → x ≡ y
   same_entry x y i j same =
-      let w = entry_found site ms x rising i in
-      let v = entry_found site ms y rising j in
+      let w = entry_found site k ms x rising i in
+      let v = entry_found site k ms y rising j in
       let alike : w.0 ≡ v.0 = some_one (get_member y.0 ms) w.0 v.0 (subst (λ (n : List ℕ). get_member n ms ≡ Some w.0) same w.1) v.1 in
-      w.2 ∙ ap (λ (n : List ℕ). (n, dependency_at site n w.0)) same ∙ ap (λ (c : Data). (y.0, dependency_at site y.0 c)) alike ∙ sym v.2
+      w.2 ∙ ap (λ (n : List ℕ). (n, dependency_at site k n w.0)) same ∙ ap (λ (c : Data). (y.0, dependency_at site k y.0 c)) alike ∙ sym v.2
 
   applied_one : (s t : Site) → applies s ≡ applies t → s ≡ t
   applied_one s t e = cc
 
-  pub dependency_once : In q (each_dependency d (dependencies_in site ms)) → In p (each_dependency d (dependencies_in site ms)) → q ≡ p
+  pub dependency_once : In q (each_dependency k d (dependencies_in site k ms)) → In p (each_dependency k d (dependencies_in site k ms)) → q ≡ p
   dependency_once i j =
-      let w = dependency_question d (dependencies_in site ms) q i in
-      let v = dependency_question d (dependencies_in site ms) p j in
-      let named : w.0.0 ≡ v.0.0 = same_names q p h (codes "dependencies") w.0.0 v.0.0 (ap (λ (x : Question Site). x.added) w.4) (ap (λ (x : Question Site). x.added) v.4) in
+      let w = dependency_question k d (dependencies_in site k ms) q i in
+      let v = dependency_question k d (dependencies_in site k ms) p j in
+      let named : w.0.0 ≡ v.0.0 = same_names q p h k w.0.0 v.0.0 (ap (λ (x : Question Site). x.added) w.4) (ap (λ (x : Question Site). x.added) v.4) in
       let same : w.0 ≡ v.0 = same_entry w.0 v.0 w.2 v.2 named in
       let alike : w.1 ≡ v.1 = applied_one w.1 v.1 (sym w.3 ∙ ap (λ (x : List ℕ × Dependency Site). x.1) same ∙ v.3) in
-      w.4 ∙ ap (λ (s : Site). question s stay (at_name (codes "dependencies") w.0.0)) alike ∙ ap (λ (n : List ℕ). question v.1 stay (at_name (codes "dependencies") n)) named ∙ sym v.4
+      w.4 ∙ ap (λ (s : Site). question s stay (at_name k w.0.0)) alike ∙ ap (λ (n : List ℕ). question v.1 stay (at_name k n)) named ∙ sym v.4
 
 -- ---- the only one
 
@@ -182,7 +182,7 @@ module _ (site : List Part → Data → Site) (matches : List ℕ → List ℕ �
   asked_once (code.Members schema) r fit n c i j = members_once k (site_of site k (view schema.now)) d rising q p h (members_of d) (λ m h. h) i j
   asked_once (code.Names schema) r fit n c i j = cc
   asked_once (code.Triggered schemas) r fit n c i j = triggered_once site k d (members_view schemas.now.entries) r q p h i j
-  asked_once (code.Dependencies entries) r fit n c i j = dependency_once site d (members_view entries.now.entries) r q p h i j
+  asked_once (code.Dependencies entries) r fit n c i j = dependency_once site k d (members_view entries.now.entries) r q p h i j
   asked_once (code.Branches schemas) r fit n c i j =
       let count = sites_counted site k 0 schemas.now in branches_once k q p h (sites_of_list site k 0 (items_view schemas.now)) (omega (arith, count, fit)) i j
   asked_once (code.Value schema) r fit n c i j = only_one q p _ i j

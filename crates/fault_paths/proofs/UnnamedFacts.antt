@@ -47,7 +47,7 @@ module _ (site : List Part → Data → Site) (matches : List ℕ → List ℕ �
   unnamed_by (code.Triggered schemas) n c i =
       let w = triggered_question k d (sites_of_map site k (members_view schemas.now.entries)) q i in ap (λ (x : Question Site). called_after None x.step) w.2
   unnamed_by (code.Dependencies entries) n c i =
-      let w = dependency_question d (dependencies_in site (members_view entries.now.entries)) q i in ap (λ (x : Question Site). called_after None x.step) w.4
+      let w = dependency_question k d (dependencies_in site k (members_view entries.now.entries)) q i in ap (λ (x : Question Site). called_after None x.step) w.4
   unnamed_by (code.Branches schemas) n c i =
       let w = branch_question k 0 (sites_of_list site k 0 (items_view schemas.now)) q i in ap (λ (x : Question Site). called_after None x.step) w.3
   unnamed_by (code.Value schema) n c i = unnamed_one _ q refl i

@@ -8,8 +8,8 @@ use Rattle.schema_meaning.specs.Members.{In, first, later, Reordered, nothing_le
 use Rattle.schema_meaning.specs.Places.{Spot, Key, whole, value_after}
 use Rattle.schema_meaning.specs.Questions.{Question, asked_at}
 use Rattle.schema_meaning.specs.Rules.{asks}
-use Rattle.schema_meaning.specs.Keywords.{Shape, rule}
-use Rattle.schema_meaning.specs.Matches.{match_sites, of_names}
+use Rattle.schema_meaning.specs.Keywords.{Form, Shape, rule}
+use Rattle.schema_meaning.specs.Matches.{form_matches, match_sites, with_names}
 use Rattle.schema_meaning.specs.Readings.{Reading, Asks}
 use Rattle.schema_meaning.specs.Circular.{Leads, starts, inside, follows, key_at}
 use Rattle.schema_definitions.specs.Bearers.{Documents}
@@ -17,7 +17,7 @@ use Rattle.schema_definitions.specs.Plain.{plain}
 use Rattle.schema_definitions.specs.Sites.{Site}
 use Rattle.meaning_laws.specs.MatchLaws.{SameOnTheWay}
 use Rattle.meaning_laws.proofs.MatchLemmas.{rule_reads}
-use Rattle.linked_meanings.specs.Related.{RelatedBeside, RelatedKeywords, RelatedShape, related_never, related_asserts, related_items, related_item_list, related_prefix_items, related_additional_items, related_no_additional_items, related_contains, related_properties, related_pattern_properties, related_additional_properties, related_no_additional_properties, related_no_properties, related_property_names, related_no_property_names, related_dependent_schemas, related_dependencies, related_all_of, related_any_of, related_one_of, related_negation, related_condition, related_reference}
+use Rattle.linked_meanings.specs.Related.{RelatedBeside, RelatedKeywords, RelatedForm, related_each_from, related_by_index, related_by_name, related_by_pattern, related_of_others, related_of_members, related_of_names, related_of_triggered, related_of_dependencies, related_of_branches, related_of_value, related_of_condition, RelatedShape, related_never, related_asserts, related_every, related_together, related_names, related_some, related_one, related_no, related_contains, related_condition, related_reference}
 use Rattle.linked_meanings.proofs.RelatedRules.{SameQuestion, same_question, rule_related, asks_related}
 use Rattle.reading_laws.specs.Asked.{IsAsked}
 use Rattle.reading_laws.proofs.Matched.{asked_matches_are_known}
@@ -64,34 +64,36 @@ beside P (x ∷ xs) (z ∷ ys) h y i =
 
 module _ {S T : Type 0} (like : S → T → Type 0) (d : Data) where
   same_names : (ps : List (List ℕ × S)) (qs : List (List ℕ × T)) → AllZip (RelatedBeside like) ps qs
-      → flat_map (λ p. of_names d p.0) ps ≡ flat_map (λ p. of_names d p.0) qs
+      → flat_map (λ p. with_names d p.0) ps ≡ flat_map (λ p. with_names d p.0) qs
   same_names [] [] h = refl
   same_names [] (q ∷ qs) h = absurd h
   same_names (p ∷ ps) [] h = absurd h
-  same_names (p ∷ ps) (q ∷ qs) h = ap₂ (λ xs ys. xs ++ ys) (ap (of_names d) h.0.0) (same_names ps qs h.1)
+  same_names (p ∷ ps) (q ∷ qs) h = ap₂ (λ xs ys. xs ++ ys) (ap (with_names d) h.0.0) (same_names ps qs h.1)
+
+  same_matches : (f : Form S) (g : Form T) → RelatedForm like f g → form_matches d f ≡ form_matches d g
+  same_matches f g (related_each_from l) = refl
+  same_matches f g (related_by_index l) = refl
+  same_matches f g (related_by_name l) = refl
+  same_matches f g (related_by_pattern {ps} {qs} l) = same_names ps qs l
+  same_matches f g (related_of_others l) = refl
+  same_matches f g (related_of_members l) = refl
+  same_matches f g (related_of_names l) = refl
+  same_matches f g (related_of_triggered l) = refl
+  same_matches f g (related_of_dependencies l) = refl
+  same_matches f g (related_of_branches l) = refl
+  same_matches f g (related_of_value l) = refl
+  same_matches f g (related_of_condition l x y) = refl
 
   same_sites : (k : Shape S) (h : Shape T) → RelatedShape like k h → match_sites d k ≡ match_sites d h
   same_sites k h related_never = refl
   same_sites k h related_asserts = refl
-  same_sites k h (related_items l) = refl
-  same_sites k h (related_item_list l) = refl
-  same_sites k h (related_prefix_items l) = refl
-  same_sites k h (related_additional_items l) = refl
-  same_sites k h (related_no_additional_items l) = refl
+  same_sites k h (related_every {f} {g} l) = same_matches f g l
+  same_sites k h (related_together {f} {g} l) = same_matches f g l
+  same_sites k h (related_names l) = refl
+  same_sites k h (related_some {f} {g} l) = same_matches f g l
+  same_sites k h (related_one {f} {g} l) = same_matches f g l
+  same_sites k h (related_no l) = refl
   same_sites k h (related_contains l) = refl
-  same_sites k h (related_properties l) = refl
-  same_sites k h (related_pattern_properties {ps} {qs} l) = same_names ps qs l
-  same_sites k h (related_additional_properties l) = refl
-  same_sites k h (related_no_additional_properties l) = refl
-  same_sites k h (related_no_properties l) = refl
-  same_sites k h (related_property_names l) = refl
-  same_sites k h (related_no_property_names l) = refl
-  same_sites k h (related_dependent_schemas l) = refl
-  same_sites k h (related_dependencies l) = refl
-  same_sites k h (related_all_of l) = refl
-  same_sites k h (related_any_of l) = refl
-  same_sites k h (related_one_of l) = refl
-  same_sites k h (related_negation l) = refl
   same_sites k h (related_condition l x y) = refl
   same_sites k h (related_reference l) = refl
 

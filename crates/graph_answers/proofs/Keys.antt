@@ -7,13 +7,13 @@ use Rattle.schema_meaning.specs.Members.{In, first, later}
 use Rattle.schema_meaning.specs.Places.{Spot, Key, whole}
 use Rattle.schema_meaning.specs.Questions.{Question, asked_at}
 use Rattle.schema_meaning.specs.Rules.{Rule, asks}
-use Rattle.schema_meaning.specs.Keywords.{Dependency, needs, applies, Shape, never, asserts, items, item_list, prefix_items, additional_items, no_additional_items, contains, properties, pattern_properties, additional_properties, no_additional_properties, no_properties, property_names, no_property_names, dependent_schemas, dependencies, all_of, any_of, one_of, negation, condition, reference, rule}
+use Rattle.schema_meaning.specs.Keywords.{Dependency, needs, applies, Form, each_from, by_index, by_name, by_pattern, of_others, of_members, of_names, of_triggered, of_dependencies, of_branches, of_value, of_condition, Shape, never, asserts, asks_every, asks_together, asks_names, asks_some, asks_one, asks_no, contains, condition, reference, rule}
 use Rattle.schema_meaning.specs.Readings.{Asks}
 use Rattle.schema_meaning.specs.Circular.{Leads, starts, inside, follows}
 use Rattle.schema_meaning.specs.Cut.{AreAll}
 use Rattle.schema_definitions.specs.AllKeys.{spots_in}
 use Rattle.document_laws.proofs.Listed.{in_map, in_flat_map}
-use Rattle.reading_laws.proofs.Asked.{IsApplied, Holds, Sound, all_sound}
+use Rattle.reading_laws.proofs.Asked.{IsApplied, HoldsIn, Holds, Sound, all_sound}
 use Rattle.reading_laws.proofs.Elements.{each_in}
 use Rattle.reading_laws.proofs.Steps.{Inside, Keeps, first_spot}
 use Rattle.schema_engine.specs.declared.node.Node.{Node}
@@ -45,28 +45,30 @@ if_any : (o : Option ℕ) → IfSome o (λ n. Unit {0})
 if_any None = tt
 if_any (Some n) = tt
 
+any_in : (form : Form ℕ) → HoldsIn (λ n. Unit {0}) form
+any_in (each_from start n) = tt
+any_in (by_index ns) = each_any ns
+any_in (by_name ps) = each_any ps
+any_in (by_pattern ps) = each_any ps
+any_in (of_others declared n) = tt
+any_in (of_members n) = tt
+any_in (of_names n) = tt
+any_in (of_triggered ps) = each_any ps
+any_in (of_dependencies ps) = each_applied ps
+any_in (of_branches ns) = each_any ns
+any_in (of_value schema n) = tt
+any_in (of_condition n t e) = (tt, if_any t, if_any e)
+
 any_holds : (k : Shape ℕ) → Holds (λ n. Unit {0}) (λ n. Unit {0}) k
 any_holds never = tt
 any_holds (asserts a) = tt
-any_holds (items start n) = tt
-any_holds (item_list ns) = each_any ns
-any_holds (prefix_items ns) = each_any ns
-any_holds (additional_items start n) = tt
-any_holds (no_additional_items start n) = tt
+any_holds (asks_every keyword form) = any_in form
+any_holds (asks_together keyword form) = any_in form
+any_holds (asks_names keyword n) = tt
+any_holds (asks_some keyword form) = any_in form
+any_holds (asks_one keyword form) = any_in form
+any_holds (asks_no keyword schema n) = tt
 any_holds (contains n least most) = tt
-any_holds (properties ps) = each_any ps
-any_holds (pattern_properties ps) = each_any ps
-any_holds (additional_properties declared n) = tt
-any_holds (no_additional_properties declared n) = tt
-any_holds (no_properties n) = tt
-any_holds (property_names n) = tt
-any_holds (no_property_names n) = tt
-any_holds (dependent_schemas ps) = each_any ps
-any_holds (dependencies ps) = each_applied ps
-any_holds (all_of ns) = each_any ns
-any_holds (any_of ns) = each_any ns
-any_holds (one_of ns) = each_any ns
-any_holds (negation schema n) = tt
 any_holds (condition n t e) = (tt, if_any t, if_any e)
 any_holds (reference r n) = tt
 

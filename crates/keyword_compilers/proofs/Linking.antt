@@ -7,7 +7,7 @@ use Rattle.schema_definitions.specs.Bearers.{Documents}
 use Rattle.schema_definitions.specs.Rows.{sites_named, sites_applied, member_names}
 use Rattle.schema_definitions.specs.Sites.{Site, below}
 use Rattle.schema_meaning.specs.Linked.{Linked, LinkedIfAny}
-use Rattle.linked_meanings.specs.Related.{RelatedBeside, RelatedIfAny, RelatedEntry, related_needs, related_applies, RelatedShape, related_asserts, related_condition, related_reference}
+use Rattle.linked_meanings.specs.Related.{RelatedBeside, RelatedIfAny, RelatedEntry, related_needs, related_applies, RelatedForm, related_each_from, related_by_index, related_by_name, related_by_pattern, related_of_others, related_of_members, related_of_names, related_of_triggered, related_of_dependencies, related_of_branches, related_of_value, related_of_condition, RelatedShape, related_asserts, related_condition, related_reference}
 use Rattle.applicators.specs.Applied.{Applicator, name_of, combining_of, asks_of}
 use Rattle.applicators.specs.Asks.{form_by, leads_by, chooses}
 use Rattle.applicators.specs.Combined.{is_by_answers}
@@ -22,7 +22,7 @@ use Rattle.keyword_compilers.specs.Linking.{AreNodesOf, LinkedAsked, LinkedToo}
 use Rattle.keyword_compilers.specs.Numbers.{first_in, beside, dependencies_by}
 use Rattle.keyword_compilers.specs.Shapes.{numbered_form, numbered_shapes}
 use Rattle.keyword_compilers.specs.declared.nodes.Nodes.{Nodes}
-use Rattle.keyword_compilers.proofs.Related.{RelatedForm, same_from, same_index, same_name, same_pattern, same_others, same_members, same_names, same_triggered, same_dependencies, same_branches, same_value, same_condition, shape_related}
+use Rattle.keyword_compilers.proofs.Related.{shape_related}
 
 module _ (like : Site → ℕ → Type 0) where
   alone : (s : Site) (ns : List ℕ) → AllZip like (s ∷ []) ns → like s (first_in ns)
@@ -35,19 +35,19 @@ module _ (like : Site → ℕ → Type 0) where
     by_names k (member n d ms) [] h = absurd h
     by_names k (member n d ms) (m ∷ ns) h = ((refl, h.0), by_names k ms ns h.1)
 
-    by_entries : (ms : Members) (ns : List ℕ) → AllZip like (sites_applied (dependencies_in site ms)) ns → AllZip (RelatedEntry like) (dependencies_in site ms) (dependencies_by ns ms)
-    by_entries no_members ns h = tt
-    by_entries (member n (array ds) ms) ns h = ((refl, related_needs), by_entries ms ns h)
-    by_entries (member n null ms) [] h = absurd h
-    by_entries (member n null ms) (m ∷ ns) h = ((refl, related_applies h.0), by_entries ms ns h.1)
-    by_entries (member n (boolean b) ms) [] h = absurd h
-    by_entries (member n (boolean b) ms) (m ∷ ns) h = ((refl, related_applies h.0), by_entries ms ns h.1)
-    by_entries (member n (number x) ms) [] h = absurd h
-    by_entries (member n (number x) ms) (m ∷ ns) h = ((refl, related_applies h.0), by_entries ms ns h.1)
-    by_entries (member n (string t) ms) [] h = absurd h
-    by_entries (member n (string t) ms) (m ∷ ns) h = ((refl, related_applies h.0), by_entries ms ns h.1)
-    by_entries (member n (object es) ms) [] h = absurd h
-    by_entries (member n (object es) ms) (m ∷ ns) h = ((refl, related_applies h.0), by_entries ms ns h.1)
+    by_entries : (k : List ℕ) (ms : Members) (ns : List ℕ) → AllZip like (sites_applied (dependencies_in site k ms)) ns → AllZip (RelatedEntry like) (dependencies_in site k ms) (dependencies_by ns ms)
+    by_entries k no_members ns h = tt
+    by_entries k (member n (array ds) ms) ns h = ((refl, related_needs), by_entries k ms ns h)
+    by_entries k (member n null ms) [] h = absurd h
+    by_entries k (member n null ms) (m ∷ ns) h = ((refl, related_applies h.0), by_entries k ms ns h.1)
+    by_entries k (member n (boolean b) ms) [] h = absurd h
+    by_entries k (member n (boolean b) ms) (m ∷ ns) h = ((refl, related_applies h.0), by_entries k ms ns h.1)
+    by_entries k (member n (number x) ms) [] h = absurd h
+    by_entries k (member n (number x) ms) (m ∷ ns) h = ((refl, related_applies h.0), by_entries k ms ns h.1)
+    by_entries k (member n (string t) ms) [] h = absurd h
+    by_entries k (member n (string t) ms) (m ∷ ns) h = ((refl, related_applies h.0), by_entries k ms ns h.1)
+    by_entries k (member n (object es) ms) [] h = absurd h
+    by_entries k (member n (object es) ms) (m ∷ ns) h = ((refl, related_applies h.0), by_entries k ms ns h.1)
 
 module _ (pairs : List (Site × ℕ)) (nodes : Nodes) where
   if_any : (x : Option Site) (y : Option ℕ) → LinkedIfAny pairs x y → RelatedIfAny (Linked pairs) x y
@@ -58,18 +58,18 @@ module _ (pairs : List (Site × ℕ)) (nodes : Nodes) where
 
   form_linked : (site : List Part → Data → Site) (k : List ℕ) (f : lent.Asks) → AllZip (Linked pairs) (leads_by site k f) nodes.leads.now → LinkedAsked pairs site f nodes
       → RelatedForm (Linked pairs) (form_by site k f) (numbered_form nodes f)
-  form_linked site k (asks.ItemsFrom start schema) h too = same_from (alone (Linked pairs) _ _ h)
-  form_linked site k (asks.ItemByItem schemas) h too = same_index h
-  form_linked site k (asks.DeclaredMembers schemas) h too = same_name (by_names (Linked pairs) site k _ _ h)
-  form_linked site k (asks.MatchingMembers schemas) h too = same_pattern (by_names (Linked pairs) site k _ _ h)
-  form_linked site k (asks.OtherMembers declared schema) h too = same_others (alone (Linked pairs) _ _ h)
-  form_linked site k (asks.Members schema) h too = same_members (alone (Linked pairs) _ _ h)
-  form_linked site k (asks.Names schema) h too = same_names (alone (Linked pairs) _ _ h)
-  form_linked site k (asks.Triggered schemas) h too = same_triggered (by_names (Linked pairs) site k _ _ h)
-  form_linked site k (asks.Dependencies entries) h too = same_dependencies (by_entries (Linked pairs) site _ _ h)
-  form_linked site k (asks.Branches schemas) h too = same_branches h
-  form_linked site k (asks.Value schema) h too = same_value (alone (Linked pairs) _ _ h)
-  form_linked site k (asks.Condition condition then_schema else_schema) h too = same_condition (alone (Linked pairs) _ _ h) (if_any _ _ too.0) (if_any _ _ too.1)
+  form_linked site k (asks.ItemsFrom start schema) h too = related_each_from (alone (Linked pairs) _ _ h)
+  form_linked site k (asks.ItemByItem schemas) h too = related_by_index h
+  form_linked site k (asks.DeclaredMembers schemas) h too = related_by_name (by_names (Linked pairs) site k _ _ h)
+  form_linked site k (asks.MatchingMembers schemas) h too = related_by_pattern (by_names (Linked pairs) site k _ _ h)
+  form_linked site k (asks.OtherMembers declared schema) h too = related_of_others (alone (Linked pairs) _ _ h)
+  form_linked site k (asks.Members schema) h too = related_of_members (alone (Linked pairs) _ _ h)
+  form_linked site k (asks.Names schema) h too = related_of_names (alone (Linked pairs) _ _ h)
+  form_linked site k (asks.Triggered schemas) h too = related_of_triggered (by_names (Linked pairs) site k _ _ h)
+  form_linked site k (asks.Dependencies entries) h too = related_of_dependencies (by_entries (Linked pairs) site k _ _ h)
+  form_linked site k (asks.Branches schemas) h too = related_of_branches h
+  form_linked site k (asks.Value schema) h too = related_of_value (alone (Linked pairs) _ _ h)
+  form_linked site k (asks.Condition condition then_schema else_schema) h too = related_of_condition (alone (Linked pairs) _ _ h) (if_any _ _ too.0) (if_any _ _ too.1)
 
   pub shapes_linked : (docs : Documents) (s : Site) (k : Keyword) → AreNodesOf pairs docs s k nodes → AllZip (RelatedShape (Linked pairs)) (shapes_of docs s k) (numbered_shapes nodes k)
   shapes_linked docs s reads.Nothing h = tt

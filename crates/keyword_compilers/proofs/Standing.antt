@@ -1,5 +1,5 @@
 -- Compiled keywords are keywords still, and ask no other nodes than those given.
-use Rattle.std.proofs.Common.{arith, ◌≡◌, ◌⊎◌, ◌++◌, ℕ, suc, List, [], ◌∷◌, map, length, Bool, true, false, bytes_eq, codes, if◌then◌else◌, Option, None, Some, IfSome, inl, inr, refl, sym, subst}
+use Rattle.std.proofs.Common.{arith, ◌≡◌, ◌⊎◌, ◌++◌, ℕ, suc, List, [], ◌∷◌, map, length, Bool, true, false, Option, None, Some, IfSome, inl, inr, refl, sym, subst}
 use Rattle.std.specs.List.{flat_map, AllByRecursion}
 use Rattle.serde_json.specs.Data.{Data, null, boolean, number, string, array, object, Members, no_members, member}
 use Rattle.serde_json.specs.View.{members_view}
@@ -9,11 +9,11 @@ use Rattle.schema_definitions.specs.Rows.{sites_named, sites_applied, member_nam
 use Rattle.schema_definitions.specs.Sites.{Site, below}
 use Rattle.schema_meaning.specs.Keywords.{Assertion, Reference, Shape, asserts, condition, reference}
 use Rattle.schema_meaning.specs.Members.{In, first, later}
-use Rattle.schema_engine.specs.Leads.{subschemas_of, targets_of, leads_of, if_some, if_applies}
+use Rattle.schema_engine.specs.Leads.{nodes_of, subschemas_of, targets_of, leads_of, if_some, if_applies}
 use Rattle.applicators.specs.Applied.{name_of, combining_of, asks_of}
 use Rattle.applicators.specs.Asks.{leads_by}
 use Rattle.applicators.specs.Bare.{bare}
-use Rattle.applicators.specs.Forms.{Form, each_from, by_index, by_name, by_pattern, of_others, of_members, of_names, of_triggered, of_dependencies, of_branches, of_value, of_condition, shape_by, stands}
+use Rattle.applicators.specs.Forms.{Form, each_from, of_names, of_value, of_condition, asks_each, asks_all, asks_some_of, shape_by, stands}
 use Rattle.applicators.specs.Lent as lent
 use Rattle.applicators.specs.Sites.{sites_of_map, dependencies_in}
 use Rattle.applicators.specs.declared.asks.AsksOf.TheVariants as asks
@@ -22,7 +22,6 @@ use Rattle.applicators.specs.declared.combining.Combining.TheVariants as code
 use Rattle.schema_sites.specs.Read as read
 use Rattle.schema_sites.specs.declared.keyword.Keyword.{Keyword}
 use Rattle.schema_sites.specs.declared.keyword.Keyword.TheVariants as reads
-use Rattle.compiled_keywords.specs.Nodes.{nodes_in}
 use Rattle.compiled_keywords.specs.Shapes.{shape_of}
 use Rattle.compiled_keywords.specs.declared.keyword.Keyword.{Keyword as Compiled}
 use Rattle.keyword_compilers.specs.Linking.{IsGiven}
@@ -32,75 +31,50 @@ use Rattle.keyword_compilers.specs.declared.nodes.Nodes.{Nodes}
 
 -- ---- what is asked is named and combined as before
 
-pub stands_numbered : (nodes : Nodes) (k : List ℕ) (c : Combining) (f : lent.Asks) → stands k c (numbered_form nodes f) ≡ stands k c (bare f)
-stands_numbered nodes k code.Every (asks.ItemsFrom start schema) = refl
-stands_numbered nodes k code.Every (asks.ItemByItem schemas) = refl
-stands_numbered nodes k code.Every (asks.DeclaredMembers schemas) = refl
-stands_numbered nodes k code.Every (asks.MatchingMembers schemas) = refl
-stands_numbered nodes k code.Every (asks.OtherMembers declared schema) = refl
-stands_numbered nodes k code.Every (asks.Triggered schemas) = refl
-stands_numbered nodes k code.Every (asks.Dependencies entries) = refl
-stands_numbered nodes k code.Every (asks.Branches schemas) = refl
-stands_numbered nodes k code.Together (asks.ItemsFrom start schema) = refl
-stands_numbered nodes k code.Together (asks.OtherMembers declared schema) = refl
-stands_numbered nodes k code.Together (asks.Members schema) = refl
-stands_numbered nodes k code.Together (asks.Names schema) = refl
-stands_numbered nodes k code.EachNamed (asks.Names schema) = refl
-stands_numbered nodes k code.SomeBranch (asks.Branches schemas) = refl
-stands_numbered nodes k code.OneBranch (asks.Branches schemas) = refl
-stands_numbered nodes k code.Refusal (asks.Value schema) = refl
-stands_numbered nodes k (code.Counted least most) (asks.ItemsFrom start schema) = refl
-stands_numbered nodes k code.Conditional (asks.Condition schema then_schema else_schema) = refl
-stands_numbered nodes k c f = refl
+module _ (nodes : Nodes) where
+  each_numbered : (f : lent.Asks) → asks_each (numbered_form nodes f) ≡ asks_each (bare f)
+  each_numbered (asks.Names schema) = refl
+  each_numbered f = refl
+
+  all_numbered : (f : lent.Asks) → asks_all (numbered_form nodes f) ≡ asks_all (bare f)
+  all_numbered (asks.Dependencies entries) = refl
+  all_numbered f = refl
+
+  some_numbered : (f : lent.Asks) → asks_some_of (numbered_form nodes f) ≡ asks_some_of (bare f)
+  some_numbered (asks.Members schema) = refl
+  some_numbered f = refl
+
+  pub stands_numbered : (k : List ℕ) (c : Combining) (f : lent.Asks) → stands k c (numbered_form nodes f) ≡ stands k c (bare f)
+  stands_numbered k code.Every f = each_numbered f
+  stands_numbered k code.Together f = all_numbered f
+  stands_numbered k code.EachNamed (asks.Names schema) = refl
+  stands_numbered k code.SomeBranch f = some_numbered f
+  stands_numbered k code.OneBranch f = some_numbered f
+  stands_numbered k code.Refusal (asks.Value schema) = refl
+  stands_numbered k (code.Counted least most) (asks.ItemsFrom start schema) = refl
+  stands_numbered k code.Conditional (asks.Condition schema then_schema else_schema) = refl
+  stands_numbered k c f = refl
 
 -- ---- the nodes of a shape are those of what is asked
 
 module _ (m : ℕ) where
-  either_one : (b : Bool) (k l : Shape ℕ) (ns : List ℕ) → subschemas_of k ≡ ns → subschemas_of l ≡ ns → In m (subschemas_of (if b then k else l)) → In m ns
-  either_one true k l ns one other h = subst (In m) one h
-  either_one false k l ns one other h = subst (In m) other h
-
-  of_shape : (k : List ℕ) (c : Combining) (f : Form ℕ) → In m (subschemas_of (shape_by k c f)) → In m (nodes_in f)
-  of_shape k code.Every (each_from start n) h = either_one (bytes_eq k (codes "items")) _ _ (n ∷ []) refl refl h
-  of_shape k code.Every (by_index ns) h = either_one (bytes_eq k (codes "items")) _ _ ns refl refl h
-  of_shape k code.Every (by_name ps) h = h
-  of_shape k code.Every (by_pattern ps) h = h
-  of_shape k code.Every (of_others declared n) h = h
-  of_shape k code.Every (of_triggered ps) h = h
-  of_shape k code.Every (of_dependencies ps) h = h
-  of_shape k code.Every (of_branches ns) h = h
-  of_shape k code.Together (each_from start n) h = h
-  of_shape k code.Together (of_others declared n) h = h
-  of_shape k code.Together (of_members n) h = h
-  of_shape k code.Together (of_names n) h = h
+  of_shape : (k : List ℕ) (c : Combining) (f : Form ℕ) → In m (subschemas_of (shape_by k c f)) → In m (nodes_of f)
+  of_shape k code.Every f h = h
+  of_shape k code.Together f h = h
   of_shape k code.EachNamed (of_names n) h = h
-  of_shape k code.SomeBranch (of_branches ns) h = h
-  of_shape k code.OneBranch (of_branches ns) h = h
+  of_shape k code.SomeBranch f h = h
+  of_shape k code.OneBranch f h = h
   of_shape k code.Refusal (of_value schema n) h = h
   of_shape k (code.Counted least most) (each_from start n) h = h
   of_shape k code.Conditional (of_condition n t e) h = h
   of_shape k c f h = absurd (elim h [ ])
 
-  no_target_either : (b : Bool) (k l : Shape ℕ) → (In m (targets_of k) → ⊥) → (In m (targets_of l) → ⊥) → In m (targets_of (if b then k else l)) → ⊥
-  no_target_either true k l one other h = one h
-  no_target_either false k l one other h = other h
-
   no_target : (k : List ℕ) (c : Combining) (f : Form ℕ) → In m (targets_of (shape_by k c f)) → ⊥
-  no_target k code.Every (each_from start n) h = no_target_either (bytes_eq k (codes "items")) _ _ (λ i. elim i [ ]) (λ i. elim i [ ]) h
-  no_target k code.Every (by_index ns) h = no_target_either (bytes_eq k (codes "items")) _ _ (λ i. elim i [ ]) (λ i. elim i [ ]) h
-  no_target k code.Every (by_name ps) h = elim h [ ]
-  no_target k code.Every (by_pattern ps) h = elim h [ ]
-  no_target k code.Every (of_others declared n) h = elim h [ ]
-  no_target k code.Every (of_triggered ps) h = elim h [ ]
-  no_target k code.Every (of_dependencies ps) h = elim h [ ]
-  no_target k code.Every (of_branches ns) h = elim h [ ]
-  no_target k code.Together (each_from start n) h = elim h [ ]
-  no_target k code.Together (of_others declared n) h = elim h [ ]
-  no_target k code.Together (of_members n) h = elim h [ ]
-  no_target k code.Together (of_names n) h = elim h [ ]
+  no_target k code.Every f h = elim h [ ]
+  no_target k code.Together f h = elim h [ ]
   no_target k code.EachNamed (of_names n) h = elim h [ ]
-  no_target k code.SomeBranch (of_branches ns) h = elim h [ ]
-  no_target k code.OneBranch (of_branches ns) h = elim h [ ]
+  no_target k code.SomeBranch f h = elim h [ ]
+  no_target k code.OneBranch f h = elim h [ ]
   no_target k code.Refusal (of_value schema n) h = elim h [ ]
   no_target k (code.Counted least most) (each_from start n) h = elim h [ ]
   no_target k code.Conditional (of_condition n t e) h = elim h [ ]
@@ -126,14 +100,14 @@ module _ (m : ℕ) where
     from_names k no_members ns e i = nothing_in i _
     from_names k (member n d ms) ns e i = taken _ ns (λ xs. map (λ p. p.1) (beside (member_names ms) xs)) e (from_names k ms) i
 
-    from_entries : (ms : Members) (ns : List ℕ) → length (sites_applied (dependencies_in site ms)) ≡ length ns → In m (flat_map (λ p. if_applies p.1) (dependencies_by ns ms)) → In m ns
-    from_entries no_members ns e i = nothing_in i _
-    from_entries (member n (array ds) ms) ns e i = from_entries ms ns e i
-    from_entries (member n null ms) ns e i = taken _ ns (λ xs. flat_map (λ p. if_applies p.1) (dependencies_by xs ms)) e (from_entries ms) i
-    from_entries (member n (boolean b) ms) ns e i = taken _ ns (λ xs. flat_map (λ p. if_applies p.1) (dependencies_by xs ms)) e (from_entries ms) i
-    from_entries (member n (number x) ms) ns e i = taken _ ns (λ xs. flat_map (λ p. if_applies p.1) (dependencies_by xs ms)) e (from_entries ms) i
-    from_entries (member n (string t) ms) ns e i = taken _ ns (λ xs. flat_map (λ p. if_applies p.1) (dependencies_by xs ms)) e (from_entries ms) i
-    from_entries (member n (object es) ms) ns e i = taken _ ns (λ xs. flat_map (λ p. if_applies p.1) (dependencies_by xs ms)) e (from_entries ms) i
+    from_entries : (k : List ℕ) (ms : Members) (ns : List ℕ) → length (sites_applied (dependencies_in site k ms)) ≡ length ns → In m (flat_map (λ p. if_applies p.1) (dependencies_by ns ms)) → In m ns
+    from_entries k no_members ns e i = nothing_in i _
+    from_entries k (member n (array ds) ms) ns e i = from_entries k ms ns e i
+    from_entries k (member n null ms) ns e i = taken _ ns (λ xs. flat_map (λ p. if_applies p.1) (dependencies_by xs ms)) e (from_entries k ms) i
+    from_entries k (member n (boolean b) ms) ns e i = taken _ ns (λ xs. flat_map (λ p. if_applies p.1) (dependencies_by xs ms)) e (from_entries k ms) i
+    from_entries k (member n (number x) ms) ns e i = taken _ ns (λ xs. flat_map (λ p. if_applies p.1) (dependencies_by xs ms)) e (from_entries k ms) i
+    from_entries k (member n (string t) ms) ns e i = taken _ ns (λ xs. flat_map (λ p. if_applies p.1) (dependencies_by xs ms)) e (from_entries k ms) i
+    from_entries k (member n (object es) ms) ns e i = taken _ ns (λ xs. flat_map (λ p. if_applies p.1) (dependencies_by xs ms)) e (from_entries k ms) i
 
   from_either : (t e : Option ℕ) → In m (if_some t ++ if_some e) → (t ≡ Some m) ⊎ (e ≡ Some m)
   from_either None None i = nothing_in i _
@@ -150,7 +124,7 @@ module _ (m : ℕ) where
   from_choice (x ∷ ns) t e one (later i) = inr (from_either t e i)
 
   module _ (nodes : Nodes) where
-    from_asks : (site : List Part → Data → Site) (k : List ℕ) (f : lent.Asks) → length (leads_by site k f) ≡ length nodes.leads.now → In m (nodes_in (numbered_form nodes f)) → IsGiven nodes m
+    from_asks : (site : List Part → Data → Site) (k : List ℕ) (f : lent.Asks) → length (leads_by site k f) ≡ length nodes.leads.now → In m (nodes_of (numbered_form nodes f)) → IsGiven nodes m
     from_asks site k (asks.ItemsFrom start schema) e i = inl (alone _ e i)
     from_asks site k (asks.ItemByItem schemas) e i = inl i
     from_asks site k (asks.DeclaredMembers schemas) e i = inl (from_names site k _ _ e i)
@@ -159,7 +133,7 @@ module _ (m : ℕ) where
     from_asks site k (asks.Members schema) e i = inl (alone _ e i)
     from_asks site k (asks.Names schema) e i = inl (alone _ e i)
     from_asks site k (asks.Triggered schemas) e i = inl (from_names site k _ _ e i)
-    from_asks site k (asks.Dependencies entries) e i = inl (from_entries site (members_view entries.now.entries) _ e i)
+    from_asks site k (asks.Dependencies entries) e i = inl (from_entries site k (members_view entries.now.entries) _ e i)
     from_asks site k (asks.Branches schemas) e i = inl i
     from_asks site k (asks.Value schema) e i = inl (alone _ e i)
     from_asks site k (asks.Condition schema then_schema else_schema) e i = from_choice _ _ _ e i

@@ -1,8 +1,8 @@
 -- The same keyword over related sites: where the sites are related by more too, and over sites that are related through others.
 use Rattle.std.proofs.Common.{◌∙◌, ℕ, List, [], ◌∷◌, Option, Some, None}
 use Rattle.std.specs.List.{AllZip}
-use Rattle.schema_meaning.specs.Keywords.{Dependency, Shape}
-use Rattle.linked_meanings.specs.Related.{RelatedBeside, RelatedIfAny, RelatedDependency, related_needs, related_applies, RelatedEntry, RelatedShape, related_never, related_asserts, related_items, related_item_list, related_prefix_items, related_additional_items, related_no_additional_items, related_contains, related_properties, related_pattern_properties, related_additional_properties, related_no_additional_properties, related_no_properties, related_property_names, related_no_property_names, related_dependent_schemas, related_dependencies, related_all_of, related_any_of, related_one_of, related_negation, related_condition, related_reference}
+use Rattle.schema_meaning.specs.Keywords.{Dependency, Form, Shape}
+use Rattle.linked_meanings.specs.Related.{RelatedBeside, RelatedIfAny, RelatedDependency, related_needs, related_applies, RelatedEntry, RelatedForm, related_each_from, related_by_index, related_by_name, related_by_pattern, related_of_others, related_of_members, related_of_names, related_of_triggered, related_of_dependencies, related_of_branches, related_of_value, related_of_condition, RelatedShape, related_never, related_asserts, related_every, related_together, related_names, related_some, related_one, related_no, related_contains, related_condition, related_reference}
 use Rattle.linked_meanings.proofs.LinkedPairs.{zipped}
 
 -- ---- related by more
@@ -30,28 +30,30 @@ module _ {S T : Type 0} (P Q : S → T → Type 0) (more : (s : S) (t : T) → P
   entries_so : (ps : List (List ℕ × Dependency S)) (qs : List (List ℕ × Dependency T)) → AllZip (RelatedEntry P) ps qs → AllZip (RelatedEntry Q) ps qs
   entries_so = zipped (RelatedEntry P) (RelatedEntry Q) entry_so
 
+  form_so : (f : Form S) (g : Form T) → RelatedForm P f g → RelatedForm Q f g
+  form_so f g (related_each_from {s} {t} l) = related_each_from (more s t l)
+  form_so f g (related_by_index {ss} {ts} l) = related_by_index (sites_so ss ts l)
+  form_so f g (related_by_name {ps} {qs} l) = related_by_name (named_so ps qs l)
+  form_so f g (related_by_pattern {ps} {qs} l) = related_by_pattern (named_so ps qs l)
+  form_so f g (related_of_others {s} {t} l) = related_of_others (more s t l)
+  form_so f g (related_of_members {s} {t} l) = related_of_members (more s t l)
+  form_so f g (related_of_names {s} {t} l) = related_of_names (more s t l)
+  form_so f g (related_of_triggered {ps} {qs} l) = related_of_triggered (named_so ps qs l)
+  form_so f g (related_of_dependencies {ps} {qs} l) = related_of_dependencies (entries_so ps qs l)
+  form_so f g (related_of_branches {ss} {ts} l) = related_of_branches (sites_so ss ts l)
+  form_so f g (related_of_value {s} {t} l) = related_of_value (more s t l)
+  form_so f g (related_of_condition {s} {t} {a} {c} {b} {d} l x y) = related_of_condition (more s t l) (if_any_so a b x) (if_any_so c d y)
+
   pub shape_so : (k : Shape S) (h : Shape T) → RelatedShape P k h → RelatedShape Q k h
   shape_so k h related_never = related_never
   shape_so k h related_asserts = related_asserts
-  shape_so k h (related_items {s} {t} l) = related_items (more s t l)
-  shape_so k h (related_item_list {ss} {ts} l) = related_item_list (sites_so ss ts l)
-  shape_so k h (related_prefix_items {ss} {ts} l) = related_prefix_items (sites_so ss ts l)
-  shape_so k h (related_additional_items {s} {t} l) = related_additional_items (more s t l)
-  shape_so k h (related_no_additional_items {s} {t} l) = related_no_additional_items (more s t l)
+  shape_so k h (related_every {f} {g} l) = related_every (form_so f g l)
+  shape_so k h (related_together {f} {g} l) = related_together (form_so f g l)
+  shape_so k h (related_names {s} {t} l) = related_names (more s t l)
+  shape_so k h (related_some {f} {g} l) = related_some (form_so f g l)
+  shape_so k h (related_one {f} {g} l) = related_one (form_so f g l)
+  shape_so k h (related_no {s} {t} l) = related_no (more s t l)
   shape_so k h (related_contains {s} {t} l) = related_contains (more s t l)
-  shape_so k h (related_properties {ps} {qs} l) = related_properties (named_so ps qs l)
-  shape_so k h (related_pattern_properties {ps} {qs} l) = related_pattern_properties (named_so ps qs l)
-  shape_so k h (related_additional_properties {s} {t} l) = related_additional_properties (more s t l)
-  shape_so k h (related_no_additional_properties {s} {t} l) = related_no_additional_properties (more s t l)
-  shape_so k h (related_no_properties {s} {t} l) = related_no_properties (more s t l)
-  shape_so k h (related_property_names {s} {t} l) = related_property_names (more s t l)
-  shape_so k h (related_no_property_names {s} {t} l) = related_no_property_names (more s t l)
-  shape_so k h (related_dependent_schemas {ps} {qs} l) = related_dependent_schemas (named_so ps qs l)
-  shape_so k h (related_dependencies {ps} {qs} l) = related_dependencies (entries_so ps qs l)
-  shape_so k h (related_all_of {ss} {ts} l) = related_all_of (sites_so ss ts l)
-  shape_so k h (related_any_of {ss} {ts} l) = related_any_of (sites_so ss ts l)
-  shape_so k h (related_one_of {ss} {ts} l) = related_one_of (sites_so ss ts l)
-  shape_so k h (related_negation {s} {t} l) = related_negation (more s t l)
   shape_so k h (related_condition {s} {t} {a} {c} {b} {d} l x y) = related_condition (more s t l) (if_any_so a b x) (if_any_so c d y)
   shape_so k h (related_reference {s} {t} l) = related_reference (more s t l)
 
@@ -96,28 +98,31 @@ module _ {S T U : Type 0} (P : S → T → Type 0) (Q : T → U → Type 0) (R :
       → AllZip (RelatedEntry P) ps qs → AllZip (RelatedEntry Q) qs rs → AllZip (RelatedEntry R) ps rs
   entries_through = zip_through (RelatedEntry P) (RelatedEntry Q) (RelatedEntry R) entry_through
 
+  form_through : (e : Form S) (f : Form T) (g : Form U) → RelatedForm P e f → RelatedForm Q f g → RelatedForm R e g
+  form_through e f g (related_each_from {s} {t} l) (related_each_from {t = u} m) = related_each_from (through s t u l m)
+  form_through e f g (related_by_index {ss} {ts} l) (related_by_index {ts = us} m) = related_by_index (sites_through ss ts us l m)
+  form_through e f g (related_by_name {ps} {qs} l) (related_by_name {qs = rs} m) = related_by_name (named_through ps qs rs l m)
+  form_through e f g (related_by_pattern {ps} {qs} l) (related_by_pattern {qs = rs} m) = related_by_pattern (named_through ps qs rs l m)
+  form_through e f g (related_of_others {s} {t} l) (related_of_others {t = u} m) = related_of_others (through s t u l m)
+  form_through e f g (related_of_members {s} {t} l) (related_of_members {t = u} m) = related_of_members (through s t u l m)
+  form_through e f g (related_of_names {s} {t} l) (related_of_names {t = u} m) = related_of_names (through s t u l m)
+  form_through e f g (related_of_triggered {ps} {qs} l) (related_of_triggered {qs = rs} m) = related_of_triggered (named_through ps qs rs l m)
+  form_through e f g (related_of_dependencies {ps} {qs} l) (related_of_dependencies {qs = rs} m) = related_of_dependencies (entries_through ps qs rs l m)
+  form_through e f g (related_of_branches {ss} {ts} l) (related_of_branches {ts = us} m) = related_of_branches (sites_through ss ts us l m)
+  form_through e f g (related_of_value {s} {t} l) (related_of_value {t = u} m) = related_of_value (through s t u l m)
+  form_through e f g (related_of_condition {s} {t} {a} {c} {b} {d} l x y) (related_of_condition {t = u} {b = i} {d = j} m v w) =
+      related_of_condition (through s t u l m) (if_any_through a b i x v) (if_any_through c d j y w)
+
   pub shape_through : (k : Shape S) (h : Shape T) (g : Shape U) → RelatedShape P k h → RelatedShape Q h g → RelatedShape R k g
   shape_through k h g related_never related_never = related_never
   shape_through k h g related_asserts related_asserts = related_asserts
-  shape_through k h g (related_items {s} {t} l) (related_items {t = u} m) = related_items (through s t u l m)
-  shape_through k h g (related_item_list {ss} {ts} l) (related_item_list {ts = us} m) = related_item_list (sites_through ss ts us l m)
-  shape_through k h g (related_prefix_items {ss} {ts} l) (related_prefix_items {ts = us} m) = related_prefix_items (sites_through ss ts us l m)
-  shape_through k h g (related_additional_items {s} {t} l) (related_additional_items {t = u} m) = related_additional_items (through s t u l m)
-  shape_through k h g (related_no_additional_items {s} {t} l) (related_no_additional_items {t = u} m) = related_no_additional_items (through s t u l m)
+  shape_through k h g (related_every {f = e} {g = f} l) (related_every {g = i} m) = related_every (form_through e f i l m)
+  shape_through k h g (related_together {f = e} {g = f} l) (related_together {g = i} m) = related_together (form_through e f i l m)
+  shape_through k h g (related_names {s} {t} l) (related_names {t = u} m) = related_names (through s t u l m)
+  shape_through k h g (related_some {f = e} {g = f} l) (related_some {g = i} m) = related_some (form_through e f i l m)
+  shape_through k h g (related_one {f = e} {g = f} l) (related_one {g = i} m) = related_one (form_through e f i l m)
+  shape_through k h g (related_no {s} {t} l) (related_no {t = u} m) = related_no (through s t u l m)
   shape_through k h g (related_contains {s} {t} l) (related_contains {t = u} m) = related_contains (through s t u l m)
-  shape_through k h g (related_properties {ps} {qs} l) (related_properties {qs = rs} m) = related_properties (named_through ps qs rs l m)
-  shape_through k h g (related_pattern_properties {ps} {qs} l) (related_pattern_properties {qs = rs} m) = related_pattern_properties (named_through ps qs rs l m)
-  shape_through k h g (related_additional_properties {s} {t} l) (related_additional_properties {t = u} m) = related_additional_properties (through s t u l m)
-  shape_through k h g (related_no_additional_properties {s} {t} l) (related_no_additional_properties {t = u} m) = related_no_additional_properties (through s t u l m)
-  shape_through k h g (related_no_properties {s} {t} l) (related_no_properties {t = u} m) = related_no_properties (through s t u l m)
-  shape_through k h g (related_property_names {s} {t} l) (related_property_names {t = u} m) = related_property_names (through s t u l m)
-  shape_through k h g (related_no_property_names {s} {t} l) (related_no_property_names {t = u} m) = related_no_property_names (through s t u l m)
-  shape_through k h g (related_dependent_schemas {ps} {qs} l) (related_dependent_schemas {qs = rs} m) = related_dependent_schemas (named_through ps qs rs l m)
-  shape_through k h g (related_dependencies {ps} {qs} l) (related_dependencies {qs = rs} m) = related_dependencies (entries_through ps qs rs l m)
-  shape_through k h g (related_all_of {ss} {ts} l) (related_all_of {ts = us} m) = related_all_of (sites_through ss ts us l m)
-  shape_through k h g (related_any_of {ss} {ts} l) (related_any_of {ts = us} m) = related_any_of (sites_through ss ts us l m)
-  shape_through k h g (related_one_of {ss} {ts} l) (related_one_of {ts = us} m) = related_one_of (sites_through ss ts us l m)
-  shape_through k h g (related_negation {s} {t} l) (related_negation {t = u} m) = related_negation (through s t u l m)
   shape_through k h g (related_condition {s} {t} {a} {c} {b} {d} l x y) (related_condition {t = u} {b = e} {d = f} m v w) =
       related_condition (through s t u l m) (if_any_through a b e x v) (if_any_through c d f y w)
   shape_through k h g (related_reference {s} {t} l) (related_reference {t = u} m) = related_reference (through s t u l m)

@@ -9,7 +9,7 @@ use Rattle.schema_meaning.specs.Places.{Spot}
 use Rattle.schema_meaning.specs.Faults.{Fault, fault, Kind, AnyOf, Contains, Not, Required, Faults, none, also, joined, join, is_none, Branches, branch, branches_of}
 use Rattle.schema_meaning.specs.Questions.{Question, asked_at, at, if_member}
 use Rattle.schema_meaning.specs.Rules.{Note, Rule, every, together, each_named, some_branch, one_branch, refusal, counted, conditional, asks, faults, own_fault, own_faults, one_fault, of_object, each_of_object, one_of_kind, is_enough, is_few, count_refused_at, chosen}
-use Rattle.schema_meaning.specs.Keywords.{Assertion, types, constant, enumeration, multiple_of, maximum, exclusive_maximum, minimum, exclusive_minimum, maximum_of_draft_4, minimum_of_draft_4, max_length, min_length, pattern, max_items, min_items, unique_items, max_properties, min_properties, required, dependent_required, Shape, never, asserts, items, item_list, prefix_items, additional_items, no_additional_items, contains, properties, pattern_properties, additional_properties, no_additional_properties, no_properties, property_names, no_property_names, dependent_schemas, dependencies, all_of, any_of, one_of, negation, condition, reference, Dependency, needs, applies, unless, if_object, none_there, missing, missing_beside, wrong, needed, counting, rule}
+use Rattle.schema_meaning.specs.Keywords.{Assertion, types, constant, enumeration, multiple_of, maximum, exclusive_maximum, minimum, exclusive_minimum, maximum_of_draft_4, minimum_of_draft_4, max_length, min_length, pattern, max_items, min_items, unique_items, max_properties, min_properties, required, dependent_required, Form, each_from, by_index, by_name, by_pattern, of_others, of_members, of_names, of_triggered, of_dependencies, of_branches, of_value, of_condition, Shape, never, asserts, asks_every, asks_together, asks_names, asks_some, asks_one, asks_no, contains, condition, reference, Dependency, needs, applies, unless, if_object, none_there, missing, missing_beside, wrong, needed, counting, noted, kind_in, rule}
 use Rattle.schema_meaning.specs.Readings.{Reading, rules, bags, tell_one, unfolded}
 use Rattle.schema_meaning.specs.Order.{SameOrOut}
 use Rattle.meaning_laws.proofs.Known.{all_known-through, option_map-twice, option_map-same}
@@ -113,28 +113,44 @@ module _ (f : List Part → List Part) where
     entries_stay d [] = tt
     entries_stay d (p ∷ ps) = both_stay _ _ (if_member_stays (get p.0 d) (needed d p.1) (needed_stay d p.1)) (entries_stay d ps)
 
+    noted_stay : (d : Data) (form : Form S) → AllStay (noted form d)
+    noted_stay d (each_from n s) = tt
+    noted_stay d (by_index ss) = tt
+    noted_stay d (by_name ps) = tt
+    noted_stay d (by_pattern ps) = tt
+    noted_stay d (of_others declared s) = tt
+    noted_stay d (of_members s) = tt
+    noted_stay d (of_names s) = tt
+    noted_stay d (of_triggered ps) = tt
+    noted_stay d (of_dependencies ps) = entries_stay d ps
+    noted_stay d (of_branches ss) = tt
+    noted_stay d (of_value e s) = tt
+    noted_stay d (of_condition s a c) = tt
+
+    kind_stays : (matches : List ℕ → List ℕ → Bool) (d : Data) (form : Form S) → moved_kind f (kind_in matches form d) ≡ kind_in matches form d
+    kind_stays matches d (each_from n s) = refl
+    kind_stays matches d (by_index ss) = refl
+    kind_stays matches d (by_name ps) = refl
+    kind_stays matches d (by_pattern ps) = refl
+    kind_stays matches d (of_others declared s) = refl
+    kind_stays matches d (of_members s) = refl
+    kind_stays matches d (of_names s) = refl
+    kind_stays matches d (of_triggered ps) = refl
+    kind_stays matches d (of_dependencies ps) = refl
+    kind_stays matches d (of_branches ss) = refl
+    kind_stays matches d (of_value e s) = refl
+    kind_stays matches d (of_condition s a c) = refl
+
     rule_stays : (matches : List ℕ → List ℕ → Bool) (d : Data) (k : Shape S) → RuleStays (rule matches d k)
     rule_stays matches d never = (tt, (refl, tt))
     rule_stays matches d (asserts a) = (tt, wrong_stays matches a d)
-    rule_stays matches d (items n s) = (tt, tt)
-    rule_stays matches d (item_list ss) = (tt, tt)
-    rule_stays matches d (prefix_items ss) = (tt, tt)
-    rule_stays matches d (additional_items n s) = (tt, tt)
-    rule_stays matches d (no_additional_items n s) = (tt, refl)
+    rule_stays matches d (asks_every k form) = (tt, noted_stay d form)
+    rule_stays matches d (asks_together k form) = (tt, kind_stays matches d form)
+    rule_stays matches d (asks_names k s) = tt
+    rule_stays matches d (asks_some k form) = tt
+    rule_stays matches d (asks_one k form) = tt
+    rule_stays matches d (asks_no k e s) = tt
     rule_stays matches d (contains s least most) = counting_stays d least most _
-    rule_stays matches d (properties ps) = (tt, tt)
-    rule_stays matches d (pattern_properties ps) = (tt, tt)
-    rule_stays matches d (additional_properties declared s) = (tt, tt)
-    rule_stays matches d (no_additional_properties declared s) = (tt, refl)
-    rule_stays matches d (no_properties s) = (tt, refl)
-    rule_stays matches d (property_names s) = tt
-    rule_stays matches d (no_property_names s) = (tt, refl)
-    rule_stays matches d (dependent_schemas ps) = (tt, tt)
-    rule_stays matches d (dependencies ps) = (tt, entries_stay d ps)
-    rule_stays matches d (all_of ss) = (tt, tt)
-    rule_stays matches d (any_of ss) = tt
-    rule_stays matches d (one_of ss) = tt
-    rule_stays matches d (negation e s) = tt
     rule_stays matches d (condition s a c) = tt
     rule_stays matches d (reference k s) = (tt, tt)
 

@@ -8,8 +8,8 @@ use Rattle.json_values.specs.Parts.{Part}
 use Rattle.schema_meaning.specs.Places.{Step, stay, to_member}
 use Rattle.schema_meaning.specs.Questions.{Question, question, at, at_name, each_branch, items_of, items_from, each_item, item_by_item, members_of, if_member, other_members, names_of}
 use Rattle.schema_meaning.specs.Rules.{Note, Rule, every, together, each_named, some_branch, one_branch, refusal, counted, conditional, asks, consequents}
-use Rattle.schema_meaning.specs.Keywords.{Shape, dependencies, Dependency, needed, applied, consequent, counting, rule}
-use Rattle.linked_meanings.specs.Related.{RelatedBeside, RelatedIfAny, RelatedDependency, related_needs, related_applies, RelatedEntry, RelatedShape, related_never, related_asserts, related_items, related_item_list, related_prefix_items, related_additional_items, related_no_additional_items, related_contains, related_properties, related_pattern_properties, related_additional_properties, related_no_additional_properties, related_no_properties, related_property_names, related_no_property_names, related_dependent_schemas, related_dependencies, related_all_of, related_any_of, related_one_of, related_negation, related_condition, related_reference}
+use Rattle.schema_meaning.specs.Keywords.{Form, Shape, asks_every, asks_together, Dependency, needed, applied, consequent, counting, asked, noted, kind_in, value_in, rule}
+use Rattle.linked_meanings.specs.Related.{RelatedBeside, RelatedIfAny, RelatedDependency, related_needs, related_applies, RelatedEntry, RelatedForm, related_each_from, related_by_index, related_by_name, related_by_pattern, related_of_others, related_of_members, related_of_names, related_of_triggered, related_of_dependencies, related_of_branches, related_of_value, related_of_condition, RelatedShape, related_never, related_asserts, related_every, related_together, related_names, related_some, related_one, related_no, related_contains, related_condition, related_reference}
 
 -- the same question of related sites
 pub data SameQuestion {S T : Type 0} (like : S → T → Type 0) : Question S → Question T → Type 0 where
@@ -92,15 +92,15 @@ module _ {S T : Type 0} (like : S → T → Type 0) where
       (map (λ m. question q.1 (to_member m.0 m.1) (at_name keyword k)) (filter (λ m. matched matches k m.0) (members_of d))) in
       subst P h.0 (mapped_related _ _ (λ m. same_question h.1) (filter (λ m. matched matches p.0 m.0) (members_of d)))
 
-  applied_related : (k : List ℕ) (x : Dependency S) (y : Dependency T) → RelatedDependency like x y → AllZip (SameQuestion like) (applied k x) (applied k y)
-  applied_related k x y related_needs = tt
-  applied_related k x y (related_applies h) = (same_question h, tt)
+  applied_related : (keyword k : List ℕ) (x : Dependency S) (y : Dependency T) → RelatedDependency like x y → AllZip (SameQuestion like) (applied keyword k x) (applied keyword k y)
+  applied_related keyword k x y related_needs = tt
+  applied_related keyword k x y (related_applies h) = (same_question h, tt)
 
-  entry_related : (d : Data) (p : List ℕ × Dependency S) (q : List ℕ × Dependency T) → RelatedEntry like p q
-      → AllZip (SameQuestion like) (if_member (get p.0 d) (λ e. applied p.0 p.1)) (if_member (get q.0 d) (λ e. applied q.0 q.1))
-  entry_related d p q h =
-      let P : List ℕ → Type 0 = λ k. AllZip (SameQuestion like) (if_member (get p.0 d) (λ e. applied p.0 p.1)) (if_member (get k d) (λ e. applied k q.1)) in
-      subst P h.0 (if_member_related (get p.0 d) _ _ (λ e. applied_related p.0 p.1 q.1 h.1))
+  entry_related : (keyword : List ℕ) (d : Data) (p : List ℕ × Dependency S) (q : List ℕ × Dependency T) → RelatedEntry like p q
+      → AllZip (SameQuestion like) (if_member (get p.0 d) (λ e. applied keyword p.0 p.1)) (if_member (get q.0 d) (λ e. applied keyword q.0 q.1))
+  entry_related keyword d p q h =
+      let P : List ℕ → Type 0 = λ k. AllZip (SameQuestion like) (if_member (get p.0 d) (λ e. applied keyword p.0 p.1)) (if_member (get k d) (λ e. applied keyword k q.1)) in
+      subst P h.0 (if_member_related (get p.0 d) _ _ (λ e. applied_related keyword p.0 p.1 q.1 h.1))
 
   needed_same : (d : Data) (x : Dependency S) (y : Dependency T) → RelatedDependency like x y → needed d x ≡ needed d y
   needed_same d x y related_needs = refl
@@ -120,41 +120,9 @@ module _ {S T : Type 0} (like : S → T → Type 0) where
   consequent_related b keyword (Some s) None h = absurd h
   consequent_related b keyword (Some s) (Some t) h = (same_side (same_question h), tt)
 
-  counting_related : (d : Data) (least most : Option ℕ) (qs : List (Question S)) (rs : List (Question T)) → AllZip (SameQuestion like) qs rs → SameRule like (counting d least most qs) (counting d least most rs)
-  counting_related null least most qs rs h = same_every tt
-  counting_related (boolean b) least most qs rs h = same_every tt
-  counting_related (number n) least most qs rs h = same_every tt
-  counting_related (string s) least most qs rs h = same_every tt
-  counting_related (array ds) least most qs rs h = same_counted h
-  counting_related (object ms) least most qs rs h = same_every tt
-
-  pub rule_related : (matches : List ℕ → List ℕ → Bool) (d : Data) (k : Shape S) (h : Shape T) → RelatedShape like k h → SameRule like (rule matches d k) (rule matches d h)
-  rule_related matches d k h related_never = same_every tt
-  rule_related matches d k h related_asserts = same_every tt
-  rule_related matches d k h (related_items {n} {s} {t} l) = same_every (items_related (codes "items") s t l n (items_from n (items_of d)))
-  rule_related matches d k h (related_item_list {ss} {ts} l) = same_every (by_item_related (codes "items") ss ts l 0 (items_of d))
-  rule_related matches d k h (related_prefix_items {ss} {ts} l) = same_every (by_item_related (codes "prefixItems") ss ts l 0 (items_of d))
-  rule_related matches d k h (related_additional_items {n} {s} {t} l) = same_every (items_related (codes "additionalItems") s t l n (items_from n (items_of d)))
-  rule_related matches d k h (related_no_additional_items {n} {s} {t} l) = same_together (items_related (codes "additionalItems") s t l n (items_from n (items_of d)))
-  rule_related matches d k h (related_contains {s} {t} {least} {most} l) = counting_related d least most _ _ (items_related (codes "contains") s t l 0 (items_of d))
-  rule_related matches d k h (related_properties {ps} {qs} l) = same_every (entries_related (RelatedBeside like) _ _ (declared_related (codes "properties") d) ps qs l)
-  rule_related matches d k h (related_pattern_properties {ps} {qs} l) = same_every (entries_related (RelatedBeside like) _ _ (matching_related matches (codes "patternProperties") d) ps qs l)
-  rule_related matches d k h (related_additional_properties {declared} l) = same_every (mapped_related _ _ (λ m. same_question l) (other_members matches declared d))
-  rule_related matches d k h (related_no_additional_properties {declared} l) = same_together (mapped_related _ _ (λ m. same_question l) (other_members matches declared d))
-  rule_related matches d k h (related_no_properties l) = same_together (mapped_related _ _ (λ m. same_question l) (members_of d))
-  rule_related matches d k h (related_property_names l) = same_each_named l
-  rule_related matches d k h (related_no_property_names l) = same_together (mapped_related _ _ (λ n. same_question l) (names_of d))
-  rule_related matches d k h (related_dependent_schemas {ps} {qs} l) = same_every (entries_related (RelatedBeside like) _ _ (triggered_related (codes "dependentSchemas") d) ps qs l)
-  rule_related matches d k h (related_dependencies {ps} {qs} l) =
-      subst (λ ns. SameRule like (rule matches d (dependencies ps)) (every (at (codes "dependencies")) ns (flat_map (λ q. if_member (get q.0 d) (λ e. applied q.0 q.1)) qs)))
-      (notes_same d ps qs l) (same_every (entries_related (RelatedEntry like) _ _ (entry_related d) ps qs l))
-  rule_related matches d k h (related_all_of {ss} {ts} l) = same_every (branches_related (codes "allOf") 0 ss ts l)
-  rule_related matches d k h (related_any_of {ss} {ts} l) = same_some_branch (branches_related (codes "anyOf") 0 ss ts l)
-  rule_related matches d k h (related_one_of {ss} {ts} l) = same_one_branch (branches_related (codes "oneOf") 0 ss ts l)
-  rule_related matches d k h (related_negation l) = same_refusal (same_question l)
-  rule_related matches d k h (related_condition {s} {t} {a} {c} {b} {d = e} l x y) =
-      same_conditional (same_question l) (zip_append (SameSide like) _ _ _ _ (consequent_related true (codes "then") a b x) (consequent_related false (codes "else") c e y))
-  rule_related matches d k h (related_reference l) = same_every (same_question l, tt)
+  sides_related : (a c : Option S) (b d : Option T) → RelatedIfAny like a b → RelatedIfAny like c d
+      → AllZip (SameSide like) (consequent true (codes "then") a ++ consequent false (codes "else") c) (consequent true (codes "then") b ++ consequent false (codes "else") d)
+  sides_related a c b d x y = zip_append (SameSide like) _ _ _ _ (consequent_related true (codes "then") a b x) (consequent_related false (codes "else") c d y)
 
   pub consequents_related : (cs : List (Bool × Question S)) (es : List (Bool × Question T)) → AllZip (SameSide like) cs es → AllZip (SameQuestion like) (consequents cs) (consequents es)
   consequents_related [] [] h = tt
@@ -164,6 +132,80 @@ module _ {S T : Type 0} (like : S → T → Type 0) where
     where
       question_of : (c : Bool × Question S) (e : Bool × Question T) → SameSide like c e → SameQuestion like c.1 e.1
       question_of c e (same_side q) = q
+
+  counting_related : (d : Data) (least most : Option ℕ) (qs : List (Question S)) (rs : List (Question T)) → AllZip (SameQuestion like) qs rs → SameRule like (counting d least most qs) (counting d least most rs)
+  counting_related null least most qs rs h = same_every tt
+  counting_related (boolean b) least most qs rs h = same_every tt
+  counting_related (number n) least most qs rs h = same_every tt
+  counting_related (string s) least most qs rs h = same_every tt
+  counting_related (array ds) least most qs rs h = same_counted h
+  counting_related (object ms) least most qs rs h = same_every tt
+
+  -- ---- of each form: the same questions of related sites, and the same notes
+
+  asked_related : (matches : List ℕ → List ℕ → Bool) (k : List ℕ) (d : Data) (f : Form S) (g : Form T) → RelatedForm like f g
+      → AllZip (SameQuestion like) (asked matches k d f) (asked matches k d g)
+  asked_related matches k d f g (related_each_from {n} {s} {t} l) = items_related k s t l n (items_from n (items_of d))
+  asked_related matches k d f g (related_by_index {ss} {ts} l) = by_item_related k ss ts l 0 (items_of d)
+  asked_related matches k d f g (related_by_name {ps} {qs} l) = entries_related (RelatedBeside like) _ _ (declared_related k d) ps qs l
+  asked_related matches k d f g (related_by_pattern {ps} {qs} l) = entries_related (RelatedBeside like) _ _ (matching_related matches k d) ps qs l
+  asked_related matches k d f g (related_of_others {declared} l) = mapped_related _ _ (λ m. same_question l) (other_members matches declared d)
+  asked_related matches k d f g (related_of_members l) = mapped_related _ _ (λ m. same_question l) (members_of d)
+  asked_related matches k d f g (related_of_names l) = mapped_related _ _ (λ n. same_question l) (names_of d)
+  asked_related matches k d f g (related_of_triggered {ps} {qs} l) = entries_related (RelatedBeside like) _ _ (triggered_related k d) ps qs l
+  asked_related matches k d f g (related_of_dependencies {ps} {qs} l) = entries_related (RelatedEntry like) _ _ (entry_related k d) ps qs l
+  asked_related matches k d f g (related_of_branches {ss} {ts} l) = branches_related k 0 ss ts l
+  asked_related matches k d f g (related_of_value l) = (same_question l, tt)
+  asked_related matches k d f g (related_of_condition {a} {c} {b} {d = e} l x y) = (same_question l, consequents_related _ _ (sides_related a c b e x y))
+
+  noted_same : (d : Data) (f : Form S) (g : Form T) → RelatedForm like f g → noted f d ≡ noted g d
+  noted_same d f g (related_each_from l) = refl
+  noted_same d f g (related_by_index l) = refl
+  noted_same d f g (related_by_name l) = refl
+  noted_same d f g (related_by_pattern l) = refl
+  noted_same d f g (related_of_others l) = refl
+  noted_same d f g (related_of_members l) = refl
+  noted_same d f g (related_of_names l) = refl
+  noted_same d f g (related_of_triggered l) = refl
+  noted_same d f g (related_of_dependencies {ps} {qs} l) = notes_same d ps qs l
+  noted_same d f g (related_of_branches l) = refl
+  noted_same d f g (related_of_value l) = refl
+  noted_same d f g (related_of_condition l x y) = refl
+
+  -- the one note that speaks for all
+  abbrev spoken : {U : Type 0} → (List ℕ → List ℕ → Bool) → Data → Form U → Note
+  spoken matches d form = record { kind = kind_in matches form d; value = value_in form d }
+
+  spoken_same : (matches : List ℕ → List ℕ → Bool) (d : Data) (f : Form S) (g : Form T) → RelatedForm like f g → spoken matches d f ≡ spoken matches d g
+  spoken_same matches d f g (related_each_from l) = refl
+  spoken_same matches d f g (related_by_index l) = refl
+  spoken_same matches d f g (related_by_name l) = refl
+  spoken_same matches d f g (related_by_pattern l) = refl
+  spoken_same matches d f g (related_of_others l) = refl
+  spoken_same matches d f g (related_of_members l) = refl
+  spoken_same matches d f g (related_of_names l) = refl
+  spoken_same matches d f g (related_of_triggered l) = refl
+  spoken_same matches d f g (related_of_dependencies l) = refl
+  spoken_same matches d f g (related_of_branches l) = refl
+  spoken_same matches d f g (related_of_value l) = refl
+  spoken_same matches d f g (related_of_condition l x y) = refl
+
+  pub rule_related : (matches : List ℕ → List ℕ → Bool) (d : Data) (k : Shape S) (h : Shape T) → RelatedShape like k h → SameRule like (rule matches d k) (rule matches d h)
+  rule_related matches d k h related_never = same_every tt
+  rule_related matches d k h related_asserts = same_every tt
+  rule_related matches d k h (related_every {k = keyword} {f} {g} l) =
+      subst (λ ns. SameRule like (rule matches d (asks_every keyword f)) (every (at keyword) ns (asked matches keyword d g))) (noted_same d f g l)
+      (same_every (asked_related matches keyword d f g l))
+  rule_related matches d k h (related_together {k = keyword} {f} {g} l) =
+      subst (λ note. SameRule like (rule matches d (asks_together keyword f)) (together (at keyword) note (asked matches keyword d g))) (spoken_same matches d f g l)
+      (same_together (asked_related matches keyword d f g l))
+  rule_related matches d k h (related_names l) = same_each_named l
+  rule_related matches d k h (related_some {k = keyword} {f} {g} l) = same_some_branch (asked_related matches keyword d f g l)
+  rule_related matches d k h (related_one {k = keyword} {f} {g} l) = same_one_branch (asked_related matches keyword d f g l)
+  rule_related matches d k h (related_no l) = same_refusal (same_question l)
+  rule_related matches d k h (related_contains {s} {t} {least} {most} l) = counting_related d least most _ _ (items_related (codes "contains") s t l 0 (items_of d))
+  rule_related matches d k h (related_condition {a} {c} {b} {d = e} l x y) = same_conditional (same_question l) (sides_related a c b e x y)
+  rule_related matches d k h (related_reference l) = same_every (same_question l, tt)
 
   pub asks_related : (k : Rule S) (h : Rule T) → SameRule like k h → AllZip (SameQuestion like) (asks k) (asks h)
   asks_related k h (same_every l) = l

@@ -2,9 +2,9 @@
 use Rattle.std.proofs.Common.{ℕ, List, [], ◌∷◌, Option, Some, None, sym}
 use Rattle.std.specs.List.{AllZip}
 use Rattle.schema_meaning.specs.Members.{Reordered, nothing_left, kept, exchanged, in_turn}
-use Rattle.schema_meaning.specs.Keywords.{Dependency, Shape}
+use Rattle.schema_meaning.specs.Keywords.{Dependency, Form, Shape}
 use Rattle.schema_meaning.specs.Readings.{Reading}
-use Rattle.linked_meanings.specs.Related.{RelatedBeside, RelatedIfAny, RelatedDependency, related_needs, related_applies, RelatedEntry, RelatedShape, AreRelatedButForPaths, related_never, related_asserts, related_items, related_item_list, related_prefix_items, related_additional_items, related_no_additional_items, related_contains, related_properties, related_pattern_properties, related_additional_properties, related_no_additional_properties, related_no_properties, related_property_names, related_no_property_names, related_dependent_schemas, related_dependencies, related_all_of, related_any_of, related_one_of, related_negation, related_condition, related_reference}
+use Rattle.linked_meanings.specs.Related.{RelatedBeside, RelatedIfAny, RelatedDependency, related_needs, related_applies, RelatedEntry, AreRelatedButForPaths, RelatedForm, related_each_from, related_by_index, related_by_name, related_by_pattern, related_of_others, related_of_members, related_of_names, related_of_triggered, related_of_dependencies, related_of_branches, related_of_value, related_of_condition, RelatedShape, related_never, related_asserts, related_every, related_together, related_names, related_some, related_one, related_no, related_contains, related_condition, related_reference}
 
 abbrev pub turned : {S T : Type 0} → (S → T → Type 0) → T → S → Type 0
 turned like t s = like s t
@@ -45,29 +45,31 @@ module _ {S T : Type 0} (like : S → T → Type 0) where
   dependency x y related_needs = related_needs
   dependency x y (related_applies h) = related_applies h
 
+  form : (f : Form S) (g : Form T) → RelatedForm like f g → RelatedForm (turned like) g f
+  form f g (related_each_from l) = related_each_from l
+  form f g (related_by_index {ss} {ts} l) = related_by_index (sites ss ts l)
+  form f g (related_by_name {ps} {qs} l) = related_by_name (entries ps qs l)
+  form f g (related_by_pattern {ps} {qs} l) = related_by_pattern (entries ps qs l)
+  form f g (related_of_others l) = related_of_others l
+  form f g (related_of_members l) = related_of_members l
+  form f g (related_of_names l) = related_of_names l
+  form f g (related_of_triggered {ps} {qs} l) = related_of_triggered (entries ps qs l)
+  form f g (related_of_dependencies {ps} {qs} l) =
+      related_of_dependencies (zip_turned (RelatedEntry like) (RelatedEntry (turned like)) (λ p q e. (sym e.0, dependency p.1 q.1 e.1)) ps qs l)
+  form f g (related_of_branches {ss} {ts} l) = related_of_branches (sites ss ts l)
+  form f g (related_of_value l) = related_of_value l
+  form f g (related_of_condition {a} {c} {b} {d} l x y) = related_of_condition l (if_any a b x) (if_any c d y)
+
   shape : (k : Shape S) (h : Shape T) → RelatedShape like k h → RelatedShape (turned like) h k
   shape k h related_never = related_never
   shape k h related_asserts = related_asserts
-  shape k h (related_items l) = related_items l
-  shape k h (related_item_list {ss} {ts} l) = related_item_list (sites ss ts l)
-  shape k h (related_prefix_items {ss} {ts} l) = related_prefix_items (sites ss ts l)
-  shape k h (related_additional_items l) = related_additional_items l
-  shape k h (related_no_additional_items l) = related_no_additional_items l
+  shape k h (related_every {f} {g} l) = related_every (form f g l)
+  shape k h (related_together {f} {g} l) = related_together (form f g l)
+  shape k h (related_names l) = related_names l
+  shape k h (related_some {f} {g} l) = related_some (form f g l)
+  shape k h (related_one {f} {g} l) = related_one (form f g l)
+  shape k h (related_no l) = related_no l
   shape k h (related_contains l) = related_contains l
-  shape k h (related_properties {ps} {qs} l) = related_properties (entries ps qs l)
-  shape k h (related_pattern_properties {ps} {qs} l) = related_pattern_properties (entries ps qs l)
-  shape k h (related_additional_properties l) = related_additional_properties l
-  shape k h (related_no_additional_properties l) = related_no_additional_properties l
-  shape k h (related_no_properties l) = related_no_properties l
-  shape k h (related_property_names l) = related_property_names l
-  shape k h (related_no_property_names l) = related_no_property_names l
-  shape k h (related_dependent_schemas {ps} {qs} l) = related_dependent_schemas (entries ps qs l)
-  shape k h (related_dependencies {ps} {qs} l) =
-      related_dependencies (zip_turned (RelatedEntry like) (RelatedEntry (turned like)) (λ p q e. (sym e.0, dependency p.1 q.1 e.1)) ps qs l)
-  shape k h (related_all_of {ss} {ts} l) = related_all_of (sites ss ts l)
-  shape k h (related_any_of {ss} {ts} l) = related_any_of (sites ss ts l)
-  shape k h (related_one_of {ss} {ts} l) = related_one_of (sites ss ts l)
-  shape k h (related_negation l) = related_negation l
   shape k h (related_condition {a} {c} {b} {d} l x y) = related_condition l (if_any a b x) (if_any c d y)
   shape k h (related_reference l) = related_reference l
 

@@ -1,5 +1,5 @@
 -- A keyword reads only the matches that it asks for.
-use Rattle.std.proofs.Common.{◌≡◌, ◌++◌, ◌||◌, ℕ, codes, List, [], ◌∷◌, Bool, true, false, not, cond, map, refl, ap, ap₂}
+use Rattle.std.proofs.Common.{◌≡◌, ◌++◌, ◌||◌, ℕ, List, [], ◌∷◌, Bool, true, false, not, cond, map, refl, ap, ap₂}
 use Rattle.std.specs.List.{flat_map, filter, list_any}
 use Rattle.serde_json.specs.Data.{Data, null, boolean, number, string, array, object}
 use Rattle.json_values.specs.Patterns.{matched}
@@ -7,9 +7,9 @@ use Rattle.schema_meaning.specs.Members.{In, first, later, is_listed}
 use Rattle.schema_meaning.specs.Places.{to_member}
 use Rattle.schema_meaning.specs.Faults.{AdditionalProperties, Pattern}
 use Rattle.schema_meaning.specs.Questions.{question, at, at_name, members_of, Declared, other_members, each_member, each_matching}
-use Rattle.schema_meaning.specs.Rules.{every, together}
-use Rattle.schema_meaning.specs.Keywords.{Assertion, types, constant, enumeration, multiple_of, maximum, exclusive_maximum, minimum, exclusive_minimum, maximum_of_draft_4, minimum_of_draft_4, max_length, min_length, pattern, max_items, min_items, unique_items, max_properties, min_properties, required, dependent_required, Shape, never, asserts, items, item_list, prefix_items, additional_items, no_additional_items, contains, properties, pattern_properties, additional_properties, no_additional_properties, no_properties, property_names, no_property_names, dependent_schemas, dependencies, all_of, any_of, one_of, negation, condition, reference, unless, wrong, named, rule}
-use Rattle.schema_meaning.specs.Matches.{of_names, asserted_matches, match_sites, ReadAlike}
+use Rattle.schema_meaning.specs.Rules.{every, together, some_branch, one_branch}
+use Rattle.schema_meaning.specs.Keywords.{Assertion, types, constant, enumeration, multiple_of, maximum, exclusive_maximum, minimum, exclusive_minimum, maximum_of_draft_4, minimum_of_draft_4, max_length, min_length, pattern, max_items, min_items, unique_items, max_properties, min_properties, required, dependent_required, Form, each_from, by_index, by_name, by_pattern, of_others, of_members, of_names, of_triggered, of_dependencies, of_branches, of_value, of_condition, Shape, never, asserts, asks_every, asks_together, asks_names, asks_some, asks_one, asks_no, contains, condition, reference, unless, wrong, named, asked, noted, kind_in, value_in, rule}
+use Rattle.schema_meaning.specs.Matches.{with_names, asserted_matches, form_matches, match_sites, ReadAlike}
 use Rattle.meaning_laws.specs.Laws.{RulesReadTheirMatches}
 use Rattle.meaning_laws.proofs.Obliged.{in_map}
 
@@ -69,47 +69,61 @@ module _ (read other : List ℕ → List ℕ → Bool) where
   in_flat f (z ∷ xs) x y first j = in_left y (f z) (flat_map f xs) j
   in_flat f (z ∷ xs) x y (later i) j = in_right y (f z) (flat_map f xs) (in_flat f xs x y i j)
 
-  name_site : (d : Data) (p : List ℕ) (m : List ℕ × Data) → In m (members_of d) → In (p, m.0) (of_names d p)
+  name_site : (d : Data) (p : List ℕ) (m : List ℕ × Data) → In m (members_of d) → In (p, m.0) (with_names d p)
   name_site d p m i = in_map (λ k. (p, k)) m.0 _ (in_map (λ (x : List ℕ × Data). x.0) m (members_of d) i)
 
-  matching_reads : {S : Type 0} (d : Data) (ps : List (List ℕ × S)) → ReadAlike read other (flat_map (λ p. of_names d p.0) ps)
-      → each_matching read (codes "patternProperties") d ps ≡ each_matching other (codes "patternProperties") d ps
-  matching_reads d ps h =
-      flat_same _ _ ps (λ p i. ap (λ ms. map (λ m. question p.1 (to_member m.0 m.1) (at_name (codes "patternProperties") p.0)) ms)
+  matching_reads : {S : Type 0} (keyword : List ℕ) (d : Data) (ps : List (List ℕ × S)) → ReadAlike read other (flat_map (λ p. with_names d p.0) ps)
+      → each_matching read keyword d ps ≡ each_matching other keyword d ps
+  matching_reads keyword d ps h =
+      flat_same _ _ ps (λ p i. ap (λ ms. map (λ m. question p.1 (to_member m.0 m.1) (at_name keyword p.0)) ms)
       (filter_same (λ m. matched read p.0 m.0) (λ (m : List ℕ × Data). matched other p.0 m.0) (members_of d)
-      (λ m j. h.same p.0 m.0 (in_flat (λ p. of_names d p.0) ps p (p.0, m.0) i (name_site d p.0 m j)))))
+      (λ m j. h.same p.0 m.0 (in_flat (λ p. with_names d p.0) ps p (p.0, m.0) i (name_site d p.0 m j)))))
 
-  others_read : (d : Data) (declared : Declared) → ReadAlike read other (flat_map (of_names d) declared.patterns) → other_members read declared d ≡ other_members other declared d
+  others_read : (d : Data) (declared : Declared) → ReadAlike read other (flat_map (with_names d) declared.patterns) → other_members read declared d ≡ other_members other declared d
   others_read d declared h =
       filter_same _ _ (members_of d) (λ m j. ap (λ b. not (is_listed m.0 declared.names || b))
       (any_same (λ p. matched read p m.0) (λ (p : List ℕ). matched other p m.0) declared.patterns
-      (λ p i. h.same p m.0 (in_flat (of_names d) declared.patterns p (p, m.0) i (name_site d p m j)))))
+      (λ p i. h.same p m.0 (in_flat (with_names d) declared.patterns p (p, m.0) i (name_site d p m j)))))
+
+  form_asks : {S : Type 0} (keyword : List ℕ) (d : Data) (form : Form S) → ReadAlike read other (form_matches d form) → asked read keyword d form ≡ asked other keyword d form
+  form_asks keyword d (each_from start s) h = refl
+  form_asks keyword d (by_index ss) h = refl
+  form_asks keyword d (by_name ps) h = refl
+  form_asks keyword d (by_pattern ps) h = matching_reads keyword d ps h
+  form_asks keyword d (of_others declared s) h = ap (each_member keyword s) (others_read d declared h)
+  form_asks keyword d (of_members s) h = refl
+  form_asks keyword d (of_names s) h = refl
+  form_asks keyword d (of_triggered ps) h = refl
+  form_asks keyword d (of_dependencies ps) h = refl
+  form_asks keyword d (of_branches ss) h = refl
+  form_asks keyword d (of_value schema s) h = refl
+  form_asks keyword d (of_condition s t e) h = refl
+
+  form_tells : {S : Type 0} (d : Data) (form : Form S) → ReadAlike read other (form_matches d form) → kind_in read form d ≡ kind_in other form d
+  form_tells d (each_from start s) h = refl
+  form_tells d (by_index ss) h = refl
+  form_tells d (by_name ps) h = refl
+  form_tells d (by_pattern ps) h = refl
+  form_tells d (of_others declared s) h = ap (λ ms. AdditionalProperties (map (λ m. m.0) ms)) (others_read d declared h)
+  form_tells d (of_members s) h = refl
+  form_tells d (of_names s) h = refl
+  form_tells d (of_triggered ps) h = refl
+  form_tells d (of_dependencies ps) h = refl
+  form_tells d (of_branches ss) h = refl
+  form_tells d (of_value schema s) h = refl
+  form_tells d (of_condition s t e) h = refl
 
   pub rule_reads : {S : Type 0} (d : Data) (k : Shape S) → ReadAlike read other (match_sites d k) → rule read d k ≡ rule other d k
   rule_reads d never h = refl
   rule_reads d (asserts a) h = ap (λ ns. every (at (named a)) ns []) (assertion_reads a d h)
-  rule_reads d (items start s) h = refl
-  rule_reads d (item_list ss) h = refl
-  rule_reads d (prefix_items ss) h = refl
-  rule_reads d (additional_items start s) h = refl
-  rule_reads d (no_additional_items start s) h = refl
+  rule_reads d (asks_every keyword form) h = ap (every (at keyword) (noted form d)) (form_asks keyword d form h)
+  rule_reads d (asks_together keyword form) h =
+      ap₂ (λ kind qs. together (at keyword) (record { kind = kind; value = value_in form d }) qs) (form_tells d form h) (form_asks keyword d form h)
+  rule_reads d (asks_names keyword s) h = refl
+  rule_reads d (asks_some keyword form) h = ap (some_branch (at keyword)) (form_asks keyword d form h)
+  rule_reads d (asks_one keyword form) h = ap (one_branch (at keyword)) (form_asks keyword d form h)
+  rule_reads d (asks_no keyword schema s) h = refl
   rule_reads d (contains s least most) h = refl
-  rule_reads d (properties ps) h = refl
-  rule_reads d (pattern_properties ps) h = ap (λ qs. every (at (codes "patternProperties")) [] qs) (matching_reads d ps h)
-  rule_reads d (additional_properties declared s) h =
-      ap (λ ms. every (at (codes "additionalProperties")) [] (each_member (codes "additionalProperties") s ms)) (others_read d declared h)
-  rule_reads d (no_additional_properties declared s) h =
-      ap (λ ms. together (at (codes "additionalProperties")) (record { kind = AdditionalProperties (map (λ m. m.0) ms); value = d }) (each_member (codes "additionalProperties") s ms))
-      (others_read d declared h)
-  rule_reads d (no_properties s) h = refl
-  rule_reads d (property_names s) h = refl
-  rule_reads d (no_property_names s) h = refl
-  rule_reads d (dependent_schemas ps) h = refl
-  rule_reads d (dependencies ps) h = refl
-  rule_reads d (all_of ss) h = refl
-  rule_reads d (any_of ss) h = refl
-  rule_reads d (one_of ss) h = refl
-  rule_reads d (negation schema s) h = refl
   rule_reads d (condition s t e) h = refl
   rule_reads d (reference r s) h = refl
 

@@ -5,7 +5,7 @@ use Rattle.serde_json.specs.Data.{string, no_items}
 use Rattle.schema_meaning.specs.Members.{In, first, later}
 use Rattle.schema_meaning.specs.Places.{stay}
 use Rattle.schema_meaning.specs.Questions.{Question, each_branch, item_by_item}
-use Rattle.schema_meaning.specs.Keywords.{Shape, never, asserts, items, item_list, prefix_items, additional_items, no_additional_items, contains, properties, pattern_properties, additional_properties, no_additional_properties, no_properties, property_names, no_property_names, dependent_schemas, dependencies, all_of, any_of, one_of, negation, condition, reference, consequent, rule}
+use Rattle.schema_meaning.specs.Keywords.{Form, each_from, by_index, by_name, by_pattern, of_others, of_members, of_names, of_triggered, of_dependencies, of_branches, of_value, of_condition, Shape, never, asserts, asks_every, asks_together, asks_names, asks_some, asks_one, asks_no, contains, condition, reference, consequent, asked, rule}
 use Rattle.schema_meaning.specs.Rules.{asks, consequents}
 
 module _ {S : Type 0} where
@@ -35,29 +35,33 @@ module _ {S : Type 0} where
   consequents_stay (Some a) (Some b) q (later first) = refl
   consequents_stay (Some a) (Some b) q (later (later j)) = elim j [ ]
 
+  form_stays : (matches : List ℕ → List ℕ → Bool) (keyword t : List ℕ) (form : Form S) (q : Question S) → In q (asked matches keyword (string t) form) → q.step ≡ stay
+  form_stays matches keyword t (each_from start s) q i = none_asked q i
+  form_stays matches keyword t (by_index ss) q i = no_items_asked keyword 0 ss q i
+  form_stays matches keyword t (by_name ps) q i = nothing_asked _ (λ x. refl) ps q i
+  form_stays matches keyword t (by_pattern ps) q i = nothing_asked _ (λ x. refl) ps q i
+  form_stays matches keyword t (of_others declared s) q i = none_asked q i
+  form_stays matches keyword t (of_members s) q i = none_asked q i
+  form_stays matches keyword t (of_names s) q i = none_asked q i
+  form_stays matches keyword t (of_triggered ps) q i = nothing_asked _ (λ x. refl) ps q i
+  form_stays matches keyword t (of_dependencies ps) q i = nothing_asked _ (λ x. refl) ps q i
+  form_stays matches keyword t (of_branches ss) q i = branches_stay keyword 0 ss q i
+  form_stays matches keyword t (of_value d s) q first = refl
+  form_stays matches keyword t (of_value d s) q (later i) = none_asked q i
+  form_stays matches keyword t (of_condition s a b) q first = refl
+  form_stays matches keyword t (of_condition s a b) q (later i) = consequents_stay a b q i
+
   pub text_stays : (matches : List ℕ → List ℕ → Bool) (t : List ℕ) (k : Shape S) (q : Question S) → In q (asks (rule matches (string t) k)) → q.step ≡ stay
   text_stays matches t never q i = none_asked q i
   text_stays matches t (asserts a) q i = none_asked q i
-  text_stays matches t (items n s) q i = none_asked q i
-  text_stays matches t (item_list ss) q i = no_items_asked (codes "items") 0 ss q i
-  text_stays matches t (prefix_items ss) q i = no_items_asked (codes "prefixItems") 0 ss q i
-  text_stays matches t (additional_items n s) q i = none_asked q i
-  text_stays matches t (no_additional_items n s) q i = none_asked q i
+  text_stays matches t (asks_every keyword form) q i = form_stays matches keyword t form q i
+  text_stays matches t (asks_together keyword form) q i = form_stays matches keyword t form q i
+  text_stays matches t (asks_names keyword s) q i = none_asked q i
+  text_stays matches t (asks_some keyword form) q i = form_stays matches keyword t form q i
+  text_stays matches t (asks_one keyword form) q i = form_stays matches keyword t form q i
+  text_stays matches t (asks_no keyword d s) q first = refl
+  text_stays matches t (asks_no keyword d s) q (later i) = none_asked q i
   text_stays matches t (contains s least most) q i = none_asked q i
-  text_stays matches t (properties ps) q i = nothing_asked _ (λ x. refl) ps q i
-  text_stays matches t (pattern_properties ps) q i = nothing_asked _ (λ x. refl) ps q i
-  text_stays matches t (additional_properties declared s) q i = none_asked q i
-  text_stays matches t (no_additional_properties declared s) q i = none_asked q i
-  text_stays matches t (no_properties s) q i = none_asked q i
-  text_stays matches t (property_names s) q i = none_asked q i
-  text_stays matches t (no_property_names s) q i = none_asked q i
-  text_stays matches t (dependent_schemas ps) q i = nothing_asked _ (λ x. refl) ps q i
-  text_stays matches t (dependencies ps) q i = nothing_asked _ (λ x. refl) ps q i
-  text_stays matches t (all_of ss) q i = branches_stay (codes "allOf") 0 ss q i
-  text_stays matches t (any_of ss) q i = branches_stay (codes "anyOf") 0 ss q i
-  text_stays matches t (one_of ss) q i = branches_stay (codes "oneOf") 0 ss q i
-  text_stays matches t (negation d s) q first = refl
-  text_stays matches t (negation d s) q (later i) = none_asked q i
   text_stays matches t (condition s a b) q first = refl
   text_stays matches t (condition s a b) q (later i) = consequents_stay a b q i
   text_stays matches t (reference r s) q first = refl

@@ -1,9 +1,9 @@
 -- Keywords over sites that are related, of which more is known.
 use Rattle.std.proofs.Common.{ℕ, List, [], ◌∷◌, Option, Some, None, IfSome}
 use Rattle.std.specs.List.{AllByRecursion, AllZip}
-use Rattle.schema_meaning.specs.Keywords.{Dependency, Shape}
-use Rattle.linked_meanings.specs.Related.{RelatedBeside, RelatedIfAny, RelatedDependency, related_needs, related_applies, RelatedEntry, RelatedShape, related_never, related_asserts, related_items, related_item_list, related_prefix_items, related_additional_items, related_no_additional_items, related_contains, related_properties, related_pattern_properties, related_additional_properties, related_no_additional_properties, related_no_properties, related_property_names, related_no_property_names, related_dependent_schemas, related_dependencies, related_all_of, related_any_of, related_one_of, related_negation, related_condition, related_reference}
-use Rattle.reading_laws.proofs.Asked.{IsApplied, Holds}
+use Rattle.schema_meaning.specs.Keywords.{Dependency, Form, Shape}
+use Rattle.schema_meaning.specs.Linked.{RelatedBeside, RelatedIfAny, RelatedDependency, related_needs, related_applies, RelatedEntry, RelatedForm, related_each_from, related_by_index, related_by_name, related_by_pattern, related_of_others, related_of_members, related_of_names, related_of_triggered, related_of_dependencies, related_of_branches, related_of_value, related_of_condition, RelatedShape, related_never, related_asserts, related_every, related_together, related_names, related_some, related_one, related_no, related_contains, related_condition, related_reference}
+use Rattle.reading_laws.proofs.Asked.{IsApplied, HoldsIn, Holds}
 
 module _ {S T : Type 0} (like : S → T → Type 0) (P : S → Type 0) (Q : T → Type 0) where
   abbrev pub Both : S → T → Type 0
@@ -39,28 +39,31 @@ module _ {S T : Type 0} (like : S → T → Type 0) (P : S → Type 0) (Q : T �
   if_any (Some s) None l h g = absurd l
   if_any (Some s) (Some t) l h g = (l, h, g)
 
+  forms : (f : Form S) (g : Form T) → RelatedForm like f g → HoldsIn P f → HoldsIn Q g → RelatedForm Both f g
+  forms _ _ (related_each_from l) h g = related_each_from (l, h, g)
+  forms _ _ (related_by_index {ss = ss} {ts = ts} z) h g = related_by_index (lists ss ts z h g)
+  forms _ _ (related_by_name {ps = ps} {qs = qs} z) h g = related_by_name (named ps qs z h g)
+  forms _ _ (related_by_pattern {ps = ps} {qs = qs} z) h g = related_by_pattern (named ps qs z h g)
+  forms _ _ (related_of_others l) h g = related_of_others (l, h, g)
+  forms _ _ (related_of_members l) h g = related_of_members (l, h, g)
+  forms _ _ (related_of_names l) h g = related_of_names (l, h, g)
+  forms _ _ (related_of_triggered {ps = ps} {qs = qs} z) h g = related_of_triggered (named ps qs z h g)
+  forms _ _ (related_of_dependencies {ps = ps} {qs = qs} z) h g = related_of_dependencies (entries ps qs z h g)
+  forms _ _ (related_of_branches {ss = ss} {ts = ts} z) h g = related_of_branches (lists ss ts z h g)
+  forms _ _ (related_of_value l) h g = related_of_value (l, h, g)
+  forms _ _ (related_of_condition {a = a} {c = c} {b = b} {d = d} l x y) h g =
+      related_of_condition (l, h.0, g.0) (if_any a b x h.1 g.1) (if_any c d y h.2 g.2)
+
   pub joined : (k : Shape S) (m : Shape T) → RelatedShape like k m → Holds P P k → Holds Q Q m → RelatedShape Both k m
   joined _ _ related_never h g = related_never
   joined _ _ related_asserts h g = related_asserts
-  joined _ _ (related_items l) h g = related_items (l, h, g)
-  joined _ _ (related_item_list {ss = ss} {ts = ts} z) h g = related_item_list (lists ss ts z h g)
-  joined _ _ (related_prefix_items {ss = ss} {ts = ts} z) h g = related_prefix_items (lists ss ts z h g)
-  joined _ _ (related_additional_items l) h g = related_additional_items (l, h, g)
-  joined _ _ (related_no_additional_items l) h g = related_no_additional_items (l, h, g)
+  joined _ _ (related_every {f = f} {g = f'} r) h g = related_every (forms f f' r h g)
+  joined _ _ (related_together {f = f} {g = f'} r) h g = related_together (forms f f' r h g)
+  joined _ _ (related_names l) h g = related_names (l, h, g)
+  joined _ _ (related_some {f = f} {g = f'} r) h g = related_some (forms f f' r h g)
+  joined _ _ (related_one {f = f} {g = f'} r) h g = related_one (forms f f' r h g)
+  joined _ _ (related_no l) h g = related_no (l, h, g)
   joined _ _ (related_contains l) h g = related_contains (l, h, g)
-  joined _ _ (related_properties {ps = ps} {qs = qs} z) h g = related_properties (named ps qs z h g)
-  joined _ _ (related_pattern_properties {ps = ps} {qs = qs} z) h g = related_pattern_properties (named ps qs z h g)
-  joined _ _ (related_additional_properties l) h g = related_additional_properties (l, h, g)
-  joined _ _ (related_no_additional_properties l) h g = related_no_additional_properties (l, h, g)
-  joined _ _ (related_no_properties l) h g = related_no_properties (l, h, g)
-  joined _ _ (related_property_names l) h g = related_property_names (l, h, g)
-  joined _ _ (related_no_property_names l) h g = related_no_property_names (l, h, g)
-  joined _ _ (related_dependent_schemas {ps = ps} {qs = qs} z) h g = related_dependent_schemas (named ps qs z h g)
-  joined _ _ (related_dependencies {ps = ps} {qs = qs} z) h g = related_dependencies (entries ps qs z h g)
-  joined _ _ (related_all_of {ss = ss} {ts = ts} z) h g = related_all_of (lists ss ts z h g)
-  joined _ _ (related_any_of {ss = ss} {ts = ts} z) h g = related_any_of (lists ss ts z h g)
-  joined _ _ (related_one_of {ss = ss} {ts = ts} z) h g = related_one_of (lists ss ts z h g)
-  joined _ _ (related_negation l) h g = related_negation (l, h, g)
   joined _ _ (related_condition {a = a} {c = c} {b = b} {d = d} l x y) h g = related_condition (l, h.0, g.0) (if_any a b x h.1 g.1) (if_any c d y h.2 g.2)
   joined _ _ (related_reference l) h g = related_reference (l, h, g)
 

@@ -18,16 +18,16 @@ use Rattle.schema_definitions.specs.Rows.{sites_named, sites_applied}
 use Rattle.schema_definitions.specs.AllKeys.{spots_in}
 use Rattle.reading_laws.proofs.Steps.{Keeps, first_spot}
 use Rattle.reading_laws.proofs.Elements.{each_in, each_laid_flat, in_mapped}
-use Rattle.reading_laws.proofs.Asked.{Holds, Sound, all_sound, IsApplied}
+use Rattle.reading_laws.proofs.Asked.{Holds, HoldsIn, Sound, all_sound, IsApplied}
 use Rattle.applicators.specs.Shapes.{shape_of, leads_of, site_of, declared_by, sites_of_list, sites_of_map, dependencies_in}
 use Rattle.applicators.specs.Questions.{each_dependency}
 use Rattle.applicators.specs.Asks.{form_by, asked_by, leads_by}
 use Rattle.applicators.specs.Combined.{name_of, combining_of, asks_of, is_by_answers}
 use Rattle.applicators.specs.Applied.{Applicator}
 use Rattle.applicators.specs.Combining.{counts_answers}
-use Rattle.applicators.specs.Forms.{Form, each_from, by_index, by_name, by_pattern, of_others, of_members, of_names, of_triggered, of_dependencies, of_branches, of_value, of_condition, shape_by}
+use Rattle.applicators.specs.Forms.{Form, each_from, by_index, by_name, by_pattern, of_others, of_members, of_names, of_triggered, of_dependencies, of_branches, of_value, of_condition, counts_each, shape_by}
 use Rattle.applicators.specs.declared.combining.Combining.{Combining}
-use Rattle.applicators.proofs.FormLemmas.{IsKeyword, as_list, as_prefix, every_branch, one_or_more, only_one, declared_members, matching_members, triggered, depending, chosen_by}
+use Rattle.applicators.proofs.FormLemmas.{IsKeyword, by_every, by_together, by_names, by_some, by_one, by_refusal, counted_items, chosen_by, each_counts, all_count, some_count}
 use Rattle.applicators.specs.Lent.{Asks}
 use Rattle.applicators.specs.declared.asks.AsksOf.TheVariants as asking
 use Rattle.applicators.proofs.CombinedLemmas.{is_keyword, follows}
@@ -73,19 +73,31 @@ Led ss s = In s ss
 all_named : (ps : List (List ℕ × Site)) → AllByRecursion (λ p. Led (sites_named ps) p.1) ps
 all_named ps = each_among (λ p. p.1) ps (Led (sites_named ps)) (λ p i. in_mapped (λ q. q.1) p ps i)
 
+led_in : (f : Form Site) → counts_each f ≡ true → HoldsIn (Led (leads_in f)) f
+unfolding leads_in
+led_in (each_from start s) h = first
+led_in (by_index ss) h = each_among (λ s. s) ss (Led ss) (λ s i. i)
+led_in (by_name ps) h = all_named ps
+led_in (by_pattern ps) h = all_named ps
+led_in (of_others declared s) h = first
+led_in (of_members s) h = first
+led_in (of_names s) h = first
+led_in (of_triggered ps) h = all_named ps
+led_in (of_dependencies ps) h = applied_among (Led (sites_applied ps)) ps (λ s i. i)
+led_in (of_branches ss) h = each_among (λ s. s) ss (Led ss) (λ s i. i)
+led_in (of_value schema s) h = first
+led_in (of_condition s t e) h = absurd (cc)
+
 led_to : (k : List ℕ) (c : Combining) (f : Form Site) → IsKeyword k c f → counts_answers c ≡ true → Holds (Led (leads_in f)) (λ s. ⊤) (shape_by k c f)
 unfolding leads_in
-led_to _ _ _ (as_list ss) h = each_among (λ s. s) ss (Led ss) (λ s i. i)
-led_to _ _ _ (as_prefix ss) h = each_among (λ s. s) ss (Led ss) (λ s i. i)
-led_to _ _ _ (every_branch ss) h = each_among (λ s. s) ss (Led ss) (λ s i. i)
-led_to _ _ _ (one_or_more ss) h = each_among (λ s. s) ss (Led ss) (λ s i. i)
-led_to _ _ _ (only_one ss) h = each_among (λ s. s) ss (Led ss) (λ s i. i)
-led_to _ _ _ (declared_members ps) h = all_named ps
-led_to _ _ _ (matching_members ps) h = all_named ps
-led_to _ _ _ (triggered ps) h = all_named ps
-led_to _ _ _ (depending ps) h = applied_among (Led (sites_applied ps)) ps (λ s i. i)
+led_to _ _ _ (by_every k f g) h = led_in f (each_counts f g)
+led_to _ _ _ (by_together k f g) h = led_in f (all_count f g)
+led_to _ _ _ (by_names k s) h = first
+led_to _ _ _ (by_some k f g) h = led_in f (some_count f g)
+led_to _ _ _ (by_one k f g) h = led_in f (some_count f g)
+led_to _ _ _ (by_refusal k schema s) h = first
+led_to _ _ _ (counted_items least most s) h = first
 led_to _ _ _ (chosen_by s t e) h = absurd (cc)
-led_to _ _ _ is h = first
 
 leads_are : (site : List Part → Data → Site) (k : List ℕ) (f : Asks) → leads_in (form_by site k f) ≡ leads_by site k f
 unfolding leads_in
@@ -154,16 +166,17 @@ calm_names : (added : List Part) (s : Site) (ms : List (List ℕ × Data)) → A
 calm_names added s [] = tt
 calm_names added s (m ∷ ms) = (refl, calm_names added s ms)
 
-calm_applied : (k : List ℕ) (x : Dependency Site) → AllByRecursion IsCalm (applied k x)
-calm_applied k (needs names) = tt
-calm_applied k (applies s) = (refl, tt)
+calm_applied : (keyword k : List ℕ) (x : Dependency Site) → AllByRecursion IsCalm (applied keyword k x)
+calm_applied keyword k (needs names) = tt
+calm_applied keyword k (applies s) = (refl, tt)
 
-calm_dependency : (k : List ℕ) (x : Dependency Site) (o : Option Data) → AllByRecursion IsCalm (if_member o (λ e. applied k x))
-calm_dependency k x None = tt
-calm_dependency k x (Some e) = calm_applied k x
+calm_dependency : (keyword k : List ℕ) (x : Dependency Site) (o : Option Data) → AllByRecursion IsCalm (if_member o (λ e. applied keyword k x))
+calm_dependency keyword k x None = tt
+calm_dependency keyword k x (Some e) = calm_applied keyword k x
 
-calm_dependencies : (d : Data) (ps : List (List ℕ × Dependency Site)) → AllByRecursion IsCalm (each_dependency d ps)
-calm_dependencies d ps = each_laid_flat (λ p. ⊤) IsCalm (λ p. if_member (get p.0 d) (λ e. applied p.0 p.1)) (λ p u. calm_dependency p.0 p.1 (get p.0 d)) ps (any_pair ps)
+calm_dependencies : (keyword : List ℕ) (d : Data) (ps : List (List ℕ × Dependency Site)) → AllByRecursion IsCalm (each_dependency keyword d ps)
+calm_dependencies keyword d ps =
+    each_laid_flat (λ p. ⊤) IsCalm (λ p. if_member (get p.0 d) (λ e. applied keyword p.0 p.1)) (λ p u. calm_dependency keyword p.0 p.1 (get p.0 d)) ps (any_pair ps)
 
 calm_condition : (site : List Part → Data → Site) (k : List ℕ) (condition : Bor Value) (t e : Option (Bor Value)) → AllByRecursion IsCalm (asked_by site (λ p s. false) k null (asking.Condition condition t e))
 calm_condition site k condition None None = (refl, tt)
@@ -180,7 +193,7 @@ all_calm site matches k d (asking.OtherMembers declared schema) = calm_members k
 all_calm site matches k d (asking.Members schema) = calm_members k (site_of site k (view schema.now)) (members_of d)
 all_calm site matches k d (asking.Names schema) = calm_names (at k) (site_of site k (view schema.now)) (members_of d)
 all_calm site matches k d (asking.Triggered schemas) = calm_triggered k d (sites_of_map site k (members_view schemas.now.entries))
-all_calm site matches k d (asking.Dependencies entries) = calm_dependencies d (dependencies_in site (members_view entries.now.entries))
+all_calm site matches k d (asking.Dependencies entries) = calm_dependencies k d (dependencies_in site k (members_view entries.now.entries))
 all_calm site matches k d (asking.Branches schemas) = calm_branches k 0 (sites_of_list site k 0 (items_view schemas.now))
 all_calm site matches k d (asking.Value schema) = (refl, tt)
 all_calm site matches k d (asking.Condition condition t e) = calm_condition site k condition t e

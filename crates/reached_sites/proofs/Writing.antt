@@ -12,7 +12,7 @@ use Rattle.schema_drafts.specs.Counts.{counts}
 use Rattle.schema_definitions.specs.Places.{Dialect, is_schema}
 use Rattle.schema_definitions.specs.Words.{listed}
 use Rattle.schema_meaning.specs.Members.{In, first, later}
-use Rattle.schema_meaning.specs.Keywords.{Assertion, types, constant, enumeration, multiple_of, maximum, exclusive_maximum, minimum, exclusive_minimum, maximum_of_draft_4, minimum_of_draft_4, max_length, min_length, pattern, max_items, min_items, unique_items, max_properties, min_properties, required, dependent_required, Shape, never, asserts, items, item_list, prefix_items, additional_items, no_additional_items, contains, properties, pattern_properties, additional_properties, no_additional_properties, no_properties, property_names, no_property_names, dependent_schemas, dependencies, all_of, any_of, one_of, negation, condition, reference}
+use Rattle.schema_meaning.specs.Keywords.{Assertion, pattern, Form, by_pattern, of_others, Shape, never, asserts, asks_every, asks_together, asks_names, asks_some, asks_one, asks_no, contains, condition, reference, pattern_properties, additional_properties, no_additional_properties, no_properties}
 use Rattle.schema_meaning.specs.Questions.{listed_members}
 use Rattle.schema_definitions.specs.Plain.{keywords_at}
 use Rattle.schema_definitions.specs.Sites.{Site, below}
@@ -32,47 +32,39 @@ use Rattle.applicators.specs.Shapes as applied
 use Rattle.applicators.specs.Applied.{Applicator}
 use Rattle.applicators.specs.Combined.{name_of, combining_of, asks_of}
 use Rattle.applicators.specs.Asks.{form_by, patterns_among}
-use Rattle.applicators.specs.Forms.{Form, by_pattern, shape_by}
+use Rattle.applicators.specs.Forms.{shape_by}
 use Rattle.applicators.specs.Lent.{Asks}
 use Rattle.applicators.specs.declared.asks.AsksOf.TheVariants as asked
 use Rattle.applicators.specs.declared.combining.Combining.{Combining}
-use Rattle.applicators.proofs.FormLemmas.{IsKeyword, from_start}
+use Rattle.applicators.proofs.FormLemmas.{IsKeyword, by_every}
 use Rattle.applicators.proofs.CombinedLemmas.{is_keyword}
 use Rattle.schema_sites.specs.Read as read
 use Rattle.schema_sites.specs.declared.keyword.Keyword.{Keyword}
 use Rattle.schema_sites.specs.declared.keyword.Keyword.TheVariants as keyword
-use Rattle.reading_laws.specs.Asked.{pattern_in, patterns_of}
-use Rattle.certificate_laws.specs.Words.{IsUnder}
+use Rattle.reading_laws.specs.Asked.{pattern_in, patterns_in, patterns_of}
+use Rattle.certificate_laws.specs.Words.{AsksPatternsBy, IsUnder, HasPatternsBy}
 use Rattle.certificate_laws.proofs.BesideLed.{found_among}
 use Rattle.certificate_laws.proofs.Listed.{each_in}
-use Rattle.certificate_laws.proofs.Named.{shapes_are_under}
+use Rattle.certificate_laws.proofs.Named.{shapes_are_under, shapes_have_patterns}
 use Rattle.reached_sites.specs.Patterns.{written_by, written_members, written_in, written}
 use Rattle.reached_sites.proofs.Listing.{in-before, in-behind, in-all, in-some, none-in}
 
 -- ---- the patterns in a keyword's own value
 
+abbrev pub shown_in : Form Site → List (List ℕ)
+shown_in (by_pattern ps) = map (λ p. p.0) ps
+shown_in form = []
+
 abbrev pub shown : Shape Site → List (List ℕ)
 shown never = []
 shown (asserts a) = pattern_in a
-shown (items start s) = []
-shown (item_list ss) = []
-shown (prefix_items ss) = []
-shown (additional_items start s) = []
-shown (no_additional_items start s) = []
+shown (asks_every k form) = shown_in form
+shown (asks_together k form) = shown_in form
+shown (asks_names k s) = []
+shown (asks_some k form) = shown_in form
+shown (asks_one k form) = shown_in form
+shown (asks_no k schema s) = []
 shown (contains s least most) = []
-shown (properties ps) = []
-shown (pattern_properties ps) = map (λ p. p.0) ps
-shown (additional_properties declared s) = []
-shown (no_additional_properties declared s) = []
-shown (no_properties s) = []
-shown (property_names s) = []
-shown (no_property_names s) = []
-shown (dependent_schemas ps) = []
-shown (dependencies ps) = []
-shown (all_of ss) = []
-shown (any_of ss) = []
-shown (one_of ss) = []
-shown (negation schema s) = []
 shown (condition s t e) = []
 shown (reference r s) = []
 
@@ -110,17 +102,11 @@ names-below : (site : List Part → Data → Site) (k : List ℕ) (ms : Members)
 names-below site k no_members = refl
 names-below site k (member n d ms) = ap (λ (ns : List (List ℕ)). n ∷ ns) (names-below site k ms)
 
-patterns-of : Form Site → List (List ℕ)
-patterns-of (by_pattern ps) = map (λ p. p.0) ps
-patterns-of form = []
-
-form-shown : (k : List ℕ) (c : Combining) (f : Form Site) → IsKeyword k c f → shown (shape_by k c f) ≡ patterns-of f
-unfolding patterns-of
-form-shown _ _ _ (from_start start s) = refl
+form-shown : (k : List ℕ) (c : Combining) (f : Form Site) → IsKeyword k c f → shown (shape_by k c f) ≡ shown_in f
+form-shown _ _ _ (by_every k f asks) = refl
 form-shown _ _ _ is = refl
 
-patterns-are : (site : List Part → Data → Site) (k : List ℕ) (f : Asks) → patterns-of (form_by site k f) ≡ patterns_among f
-unfolding patterns-of
+patterns-are : (site : List Part → Data → Site) (k : List ℕ) (f : Asks) → shown_in (form_by site k f) ≡ patterns_among f
 patterns-are site k (asked.MatchingMembers schemas) = names-below site k (members_view schemas.now.entries)
 patterns-are site k f = refl
 
@@ -143,6 +129,10 @@ keyword-shown docs s (keyword.Reference r text target) = refl
 abbrev ShownBy : Row → List ℕ → Type 0
 ShownBy row p = In p (flat_map shown row.shapes)
 
+-- with those that `additionalProperties` looks at
+abbrev BorneBy : Row → List ℕ → Type 0
+BorneBy row p = In p (flat_map patterns_of row.shapes)
+
 -- nothing is wrong with a row, or nothing follows
 not-right : {P : Type 0} (c : BuildCause) (cs : List BuildCause) → c ∷ cs ≡ [] → P
 not-right c cs e = absurd (cc (e))
@@ -150,11 +140,11 @@ not-right c cs e = absurd (cc (e))
 abbrev one_pattern : Context → List ℕ → Bool → Row
 one_pattern x q b = if b then reads [] (assertion (pattern q)) else refused (bad_pattern (place_at x (at (codes "pattern"))) ∷ [])
 
-pattern-shown : (x : Context) (p q : List ℕ) (b : Bool) → ShownBy (one_pattern x q b) p → In p (q ∷ [])
+pattern-shown : (x : Context) (p q : List ℕ) (b : Bool) → BorneBy (one_pattern x q b) p → In p (q ∷ [])
 pattern-shown x p q true i = i
 pattern-shown x p q false i = none-in i
 
-of-pattern : (x : Context) (p : List ℕ) (o : Option (List ℕ)) → ShownBy (pattern_row x (codes "pattern") o) p → In p (listed o)
+of-pattern : (x : Context) (p : List ℕ) (o : Option (List ℕ)) → BorneBy (pattern_row x (codes "pattern") o) p → In p (listed o)
 of-pattern x p None i = i
 of-pattern x p (Some q) i = pattern-shown x p q (is_made x q) i
 
@@ -201,7 +191,7 @@ wrong-some x k (member n d ms) cs e none = wrong-more x k n d (is_schema d) (eac
 abbrev names_row : Named → Row
 names_row r = row_of sites_named (λ ps. pattern_properties ps ∷ []) r
 
-names-shown : (x : Context) (k p : List ℕ) (ms : Members) (r : Named) → each_named x k ms ≡ r → ShownBy (names_row r) p → In p (member_names ms)
+names-shown : (x : Context) (k p : List ℕ) (ms : Members) (r : Named) → each_named x k ms ≡ r → BorneBy (names_row r) p → In p (member_names ms)
 names-shown x k p ms (Ok ps) e i = subst (λ (ns : List (List ℕ)). In p ns) (append-nil (names_in ps) ∙ names-read x k ms ps e) i
 names-shown x k p ms (Err cs) e i = none-in i
 
@@ -209,7 +199,7 @@ shows-names : (x : Context) (k p : List ℕ) (ms : Members) (r : Named) → each
 shows-names x k p ms (Ok ps) e right i = subst (λ (ns : List (List ℕ)). In p ns) (sym (append-nil (names_in ps) ∙ names-read x k ms ps e)) i
 shows-names x k p ms (Err cs) e right i = absurd (wrong-some x k ms cs e right)
 
-of-map : (x : Context) (k p : List ℕ) (d : Data) → ShownBy (schema_map x k pattern_properties d) p → In p (names_of_object (Some d))
+of-map : (x : Context) (k p : List ℕ) (d : Data) → BorneBy (schema_map x k pattern_properties d) p → In p (names_of_object (Some d))
 of-map x k p null i = i
 of-map x k p (boolean b) i = i
 of-map x k p (number n) i = i
@@ -225,7 +215,7 @@ in-map x k p (string t) r i = i
 in-map x k p (array ds) r i = i
 in-map x k p (object ms) r i = shows-names x k p ms (each_named x k ms) refl r i
 
-of-causes : (cs : List BuildCause) (row : Row) (p : List ℕ) → ShownBy (with_causes cs row) p → ShownBy row p
+of-causes : (cs : List BuildCause) (row : Row) (p : List ℕ) → BorneBy (with_causes cs row) p → BorneBy row p
 of-causes [] row p i = i
 of-causes (c ∷ cs) row p i = none-in i
 
@@ -233,7 +223,7 @@ in-causes : (cs : List BuildCause) (row : Row) (p : List ℕ) → (with_causes c
 in-causes [] row p r h = h r
 in-causes (c ∷ cs) row p r h = not-right c (cs ++ row.causes) r
 
-of-patterns : (x : Context) (p : List ℕ) (d : Data) → ShownBy (pattern_properties_row x (codes "patternProperties") d) p → In p (names_of_object (Some d))
+of-patterns : (x : Context) (p : List ℕ) (d : Data) → BorneBy (pattern_properties_row x (codes "patternProperties") d) p → In p (names_of_object (Some d))
 of-patterns x p d i =
     let k = codes "patternProperties" in
     of-map x k p d (of-causes (patterns_wrong x k (names_of_object (Some d))) (schema_map x k pattern_properties d) p i)
@@ -258,17 +248,13 @@ abbrev counted_row : Context → List ℕ → Data → Bool → Row
 counted_row x k d b = if b then read_among readers x k d else nothing_read
 
 module _ (x : Context) (p : List ℕ) where
-  pattern-item : (d : Data) (b : Bool) → ShownBy (counted_row x (codes "pattern") d b) p → In p (if b then written_by (codes "pattern") d else [])
+  pattern-item : (d : Data) (b : Bool) → BorneBy (counted_row x (codes "pattern") d b) p → In p (if b then written_by (codes "pattern") d else [])
   pattern-item d true i = of-pattern x p (as_str d) i
   pattern-item d false i = none-in i
 
-  names-item : (d : Data) (b : Bool) → ShownBy (counted_row x (codes "patternProperties") d b) p → In p (if b then written_by (codes "patternProperties") d else [])
+  names-item : (d : Data) (b : Bool) → BorneBy (counted_row x (codes "patternProperties") d b) p → In p (if b then written_by (codes "patternProperties") d else [])
   names-item d true i = of-patterns x p d i
   names-item d false i = none-in i
-
-  -- those that `additionalProperties` looks at
-  abbrev Declares : Row → Type 0
-  Declares row = In p (flat_map patterns_of row.shapes)
 
   abbrev Beside : Type 0
   Beside = In p (names_of_object (beside x (codes "patternProperties")))
@@ -280,7 +266,7 @@ module _ (x : Context) (p : List ℕ) where
   own : (shape : Shape Site) → In p (flat_map patterns_of (shape ∷ [])) → In p (patterns_of shape)
   own shape i = subst (λ (ps : List (List ℕ)). In p ps) (append-nil (patterns_of shape)) i
 
-  of-others : (d : Data) → Declares (additional_properties_row x (codes "additionalProperties") d) → Beside
+  of-others : (d : Data) → BorneBy (additional_properties_row x (codes "additionalProperties") d) p → Beside
   of-others null i = none-in i
   of-others (boolean true) i = none-in i
   of-others (boolean false) i =
@@ -291,7 +277,7 @@ module _ (x : Context) (p : List ℕ) where
   of-others (array ds) i = none-in i
   of-others (object ms) i = own (additional_properties (declared_beside x) (below x.documents x.site (at (codes "additionalProperties")) (object ms))) i
 
-  others-item : (d : Data) (b : Bool) → Declares (counted_row x (codes "additionalProperties") d b) → Beside
+  others-item : (d : Data) (b : Bool) → BorneBy (counted_row x (codes "additionalProperties") d b) p → Beside
   others-item d true i = of-others d i
   others-item d false i = none-in i
 
@@ -314,71 +300,48 @@ module _ (x : Context) (p : List ℕ) where
     by-item : In p (item x.site.dialect x.members k d) → Written
     by-item i = written-among x.site.dialect x.members x.members k p d listed i
 
-    of-asserted : codes "pattern" ≡ k → ShownBy (row_at x k d) p → Written
+    of-asserted : codes "pattern" ≡ k → BorneBy (row_at x k d) p → Written
     of-asserted e i =
-        by-item (subst (λ (n : List ℕ). ShownBy (row_at x n d) p → In p (item x.site.dialect x.members n d)) e (pattern-item d (counts_here x (codes "pattern"))) i)
+        by-item (subst (λ (n : List ℕ). BorneBy (row_at x n d) p → In p (item x.site.dialect x.members n d)) e (pattern-item d (counts_here x (codes "pattern"))) i)
 
-    of-named : codes "patternProperties" ≡ k → ShownBy (row_at x k d) p → Written
+    of-named : codes "patternProperties" ≡ k → BorneBy (row_at x k d) p → Written
     of-named e i =
-        by-item (subst (λ (n : List ℕ). ShownBy (row_at x n d) p → In p (item x.site.dialect x.members n d)) e (names-item d (counts_here x (codes "patternProperties"))) i)
+        by-item (subst (λ (n : List ℕ). BorneBy (row_at x n d) p → In p (item x.site.dialect x.members n d)) e (names-item d (counts_here x (codes "patternProperties"))) i)
 
-    of-declared : codes "additionalProperties" ≡ k → Declares (row_at x k d) → Written
+    of-declared : codes "additionalProperties" ≡ k → BorneBy (row_at x k d) p → Written
     of-declared e i =
-        beside-written (subst (λ (n : List ℕ). Declares (row_at x n d) → Beside) e (others-item d (counts_here x (codes "additionalProperties"))) i)
+        beside-written (subst (λ (n : List ℕ). BorneBy (row_at x n d) p → Beside) e (others-item d (counts_here x (codes "additionalProperties"))) i)
 
     abbrev Under : Shape Site → Type 0
     Under shape = IsUnder (is_draft_4 x.site.dialect.draft) k shape
 
-    by-assertion : (a : Assertion) → Under (asserts a) → In (asserts a) (row_at x k d).shapes → In p (pattern_in a) → Written
-    by-assertion (types ts) u i j = none-in j
-    by-assertion (constant e) u i j = none-in j
-    by-assertion (enumeration ds) u i j = none-in j
-    by-assertion (multiple_of n) u i j = none-in j
-    by-assertion (maximum z) u i j = none-in j
-    by-assertion (exclusive_maximum z) u i j = none-in j
-    by-assertion (minimum z) u i j = none-in j
-    by-assertion (exclusive_minimum z) u i j = none-in j
-    by-assertion (maximum_of_draft_4 z b) u i j = none-in j
-    by-assertion (minimum_of_draft_4 z b) u i j = none-in j
-    by-assertion (max_length n) u i j = none-in j
-    by-assertion (min_length n) u i j = none-in j
-    by-assertion (pattern q) u i j = of-asserted (u.back (codes "pattern") refl).of_member (in-all shown (row_at x k d).shapes i j)
-    by-assertion (max_items n) u i j = none-in j
-    by-assertion (min_items n) u i j = none-in j
-    by-assertion unique_items u i j = none-in j
-    by-assertion (max_properties n) u i j = none-in j
-    by-assertion (min_properties n) u i j = none-in j
-    by-assertion (required names) u i j = none-in j
-    by-assertion (dependent_required ps) u i j = none-in j
+    by-assertion : (a : Assertion) → Under (asserts a) → BorneBy (row_at x k d) p → In p (pattern_in a) → Written
+    by-assertion (pattern q) u i j = of-asserted (u.back (codes "pattern") refl).of_member i
+    by-assertion a u i j = none-in j
 
-    by-shape : (shape : Shape Site) → Under shape → In shape (row_at x k d).shapes → In p (patterns_of shape) → Written
-    by-shape never u i j = none-in j
-    by-shape (asserts a) u i j = by-assertion a u i j
-    by-shape (items start s) u i j = none-in j
-    by-shape (item_list ss) u i j = none-in j
-    by-shape (prefix_items ss) u i j = none-in j
-    by-shape (additional_items start s) u i j = none-in j
-    by-shape (no_additional_items start s) u i j = none-in j
-    by-shape (contains s least most) u i j = none-in j
-    by-shape (properties ps) u i j = none-in j
-    by-shape (pattern_properties ps) u i j = of-named (u.back (codes "patternProperties") refl).of_member (in-all shown (row_at x k d).shapes i j)
-    by-shape (additional_properties declared s) u i j = of-declared (u.back (codes "additionalProperties") refl).of_member (in-all patterns_of (row_at x k d).shapes i j)
-    by-shape (no_additional_properties declared s) u i j = of-declared (u.back (codes "additionalProperties") refl).of_member (in-all patterns_of (row_at x k d).shapes i j)
-    by-shape (no_properties s) u i j = none-in j
-    by-shape (property_names s) u i j = none-in j
-    by-shape (no_property_names s) u i j = none-in j
-    by-shape (dependent_schemas ps) u i j = none-in j
-    by-shape (dependencies ps) u i j = none-in j
-    by-shape (all_of ss) u i j = none-in j
-    by-shape (any_of ss) u i j = none-in j
-    by-shape (one_of ss) u i j = none-in j
-    by-shape (negation schema s) u i j = none-in j
-    by-shape (condition s t e) u i j = none-in j
-    by-shape (reference r s) u i j = none-in j
+    by-form : (form : Form Site) → AsksPatternsBy k form → BorneBy (row_at x k d) p → In p (patterns_in form) → Written
+    by-form (by_pattern ps) e i j = of-named e i
+    by-form (of_others declared s) e i j = of-declared e i
+    by-form form e i j = none-in j
+
+    by-shape : (shape : Shape Site) → Under shape → HasPatternsBy k shape → BorneBy (row_at x k d) p → In p (patterns_of shape) → Written
+    by-shape never u e i j = none-in j
+    by-shape (asserts a) u e i j = by-assertion a u i j
+    by-shape (asks_every n form) u e i j = by-form form e i j
+    by-shape (asks_together n form) u e i j = by-form form e i j
+    by-shape (asks_names n s) u e i j = none-in j
+    by-shape (asks_some n form) u e i j = by-form form e i j
+    by-shape (asks_one n form) u e i j = by-form form e i j
+    by-shape (asks_no n schema s) u e i j = none-in j
+    by-shape (contains s least most) u e i j = none-in j
+    by-shape (condition s t f) u e i j = none-in j
+    by-shape (reference r s) u e i j = none-in j
 
     member-written : (shape : Shape Site) → In shape (row_at x k d).shapes → In p (patterns_of shape) → Written
     member-written shape i j =
-        by-shape shape (each_in (IsUnder (is_draft_4 x.site.dialect.draft) k) (row_at x k d).shapes (shapes_are_under x k d) shape i) i j
+        let shapes = (row_at x k d).shapes in
+        by-shape shape (each_in (IsUnder (is_draft_4 x.site.dialect.draft) k) shapes (shapes_are_under x k d) shape i)
+        (each_in (HasPatternsBy k) shapes (shapes_have_patterns x k d) shape i) (in-all patterns_of shapes i j) j
 
 -- ---- all that stands at a site
 

@@ -1,15 +1,15 @@
 -- What is known of a shape's sites is known of the sites that it asks.
 use Rattle.std.proofs.Common.{◌≡◌, ℕ, suc, List, [], ◌∷◌, ◌++◌, Bool, true, false, map, not, IfSome, Option, Some, None, codes, refl}
-use Rattle.std.specs.List.{filter, flat_map, AllByRecursion}
+use Rattle.std.specs.List.{filter, AllByRecursion}
 use Rattle.std.specs.Prelude.{⊤}
 use Rattle.serde_json.specs.Data.{Data, null, boolean, number, string, array, object, Items, no_items, item}
 use Rattle.serde_json.specs.Find.{get}
-use Rattle.json_values.specs.Parts.{Part, name}
+use Rattle.json_values.specs.Parts.{Part}
 use Rattle.json_values.specs.Patterns.{matched}
 use Rattle.schema_meaning.specs.Places.{Step, stay, to_item, to_member, to_name}
 use Rattle.schema_meaning.specs.Questions.{Question, question, at, at_name, at_index, each_branch, items_of, items_from, each_item, item_by_item, members_of, if_member, each_declared, each_matching, Declared, is_declared, other_members, each_member, each_name, each_triggered}
 use Rattle.schema_meaning.specs.Rules.{asks, consequents}
-use Rattle.schema_meaning.specs.Keywords.{Dependency, needs, applies, applied, consequent, counting, Shape, never, asserts, items, item_list, prefix_items, additional_items, no_additional_items, contains, properties, pattern_properties, additional_properties, no_additional_properties, no_properties, property_names, no_property_names, dependent_schemas, dependencies, all_of, any_of, one_of, negation, condition, reference, rule}
+use Rattle.schema_meaning.specs.Keywords.{Dependency, needs, applies, applied, consequent, counting, Form, each_from, by_index, by_name, by_pattern, of_others, of_members, of_names, of_triggered, of_dependencies, of_branches, of_value, of_condition, Shape, never, asserts, asks_every, asks_together, asks_names, asks_some, asks_one, asks_no, contains, condition, reference, each_dependency, asked, rule}
 use Rattle.document_laws.proofs.Lists.{joined}
 use Rattle.reading_laws.proofs.Elements.{each_mapped, each_laid_flat, each_kept}
 use Rattle.reading_laws.proofs.Steps.{Keeps, stay_keeps, ItemsLie, first_item, next_items, all_items, items_lie, MemberLies, members_lie, found_keeps}
@@ -18,29 +18,32 @@ abbrev pub IsApplied : {S : Type 0} → (S → Type 0) → Dependency S → Type
 IsApplied P (needs names) = ⊤
 IsApplied P (applies s) = P s
 
+-- P holds of each site of a subschema in what is asked
+abbrev pub HoldsIn : {S : Type 0} → (S → Type 0) → Form S → Type 0
+HoldsIn P (each_from start s) = P s
+HoldsIn P (by_index ss) = AllByRecursion P ss
+HoldsIn P (by_name ps) = AllByRecursion (λ p. P p.1) ps
+HoldsIn P (by_pattern ps) = AllByRecursion (λ p. P p.1) ps
+HoldsIn P (of_others declared s) = P s
+HoldsIn P (of_members s) = P s
+HoldsIn P (of_names s) = P s
+HoldsIn P (of_triggered ps) = AllByRecursion (λ p. P p.1) ps
+HoldsIn P (of_dependencies ps) = AllByRecursion (λ p. IsApplied P p.1) ps
+HoldsIn P (of_branches ss) = AllByRecursion P ss
+HoldsIn P (of_value schema s) = P s
+HoldsIn P (of_condition s t e) = P s × IfSome t P × IfSome e P
+
 -- P holds of each site of a subschema in the shape, R of a target
 abbrev pub Holds : {S : Type 0} → (S → Type 0) → (S → Type 0) → Shape S → Type 0
 Holds P R never = ⊤
 Holds P R (asserts a) = ⊤
-Holds P R (items start s) = P s
-Holds P R (item_list ss) = AllByRecursion P ss
-Holds P R (prefix_items ss) = AllByRecursion P ss
-Holds P R (additional_items start s) = P s
-Holds P R (no_additional_items start s) = P s
+Holds P R (asks_every k form) = HoldsIn P form
+Holds P R (asks_together k form) = HoldsIn P form
+Holds P R (asks_names k s) = P s
+Holds P R (asks_some k form) = HoldsIn P form
+Holds P R (asks_one k form) = HoldsIn P form
+Holds P R (asks_no k schema s) = P s
 Holds P R (contains s least most) = P s
-Holds P R (properties ps) = AllByRecursion (λ p. P p.1) ps
-Holds P R (pattern_properties ps) = AllByRecursion (λ p. P p.1) ps
-Holds P R (additional_properties declared s) = P s
-Holds P R (no_additional_properties declared s) = P s
-Holds P R (no_properties s) = P s
-Holds P R (property_names s) = P s
-Holds P R (no_property_names s) = P s
-Holds P R (dependent_schemas ps) = AllByRecursion (λ p. P p.1) ps
-Holds P R (dependencies ps) = AllByRecursion (λ p. IsApplied P p.1) ps
-Holds P R (all_of ss) = AllByRecursion P ss
-Holds P R (any_of ss) = AllByRecursion P ss
-Holds P R (one_of ss) = AllByRecursion P ss
-Holds P R (negation schema s) = P s
 Holds P R (condition s t e) = P s × IfSome t P × IfSome e P
 Holds P R (reference r s) = R s
 
@@ -65,11 +68,11 @@ module _ {S : Type 0} (P R : S → Type 0) where
   by_one keyword d s p i no_items h = tt
   by_one keyword d s p i (item e ds) h = (sound d s (to_item i e) (at keyword) p (first_item d e i ds h), by_one keyword d s p (suc i) ds (next_items d e i ds h))
 
-  by_index : (keyword : List ℕ) (d : Data) (ss : List S) (i : ℕ) (ds : Items) → AllByRecursion P ss → ItemsLie d i ds → AllByRecursion (Sound P R d) (item_by_item keyword ss i ds)
-  by_index keyword d [] i ds p h = tt
-  by_index keyword d (s ∷ ss) i no_items p h = tt
-  by_index keyword d (s ∷ ss) i (item e ds) p h =
-      (sound d s (to_item i e) (at_index keyword i) p.0 (first_item d e i ds h), by_index keyword d ss (suc i) ds p.1 (next_items d e i ds h))
+  each_by_index : (keyword : List ℕ) (d : Data) (ss : List S) (i : ℕ) (ds : Items) → AllByRecursion P ss → ItemsLie d i ds → AllByRecursion (Sound P R d) (item_by_item keyword ss i ds)
+  each_by_index keyword d [] i ds p h = tt
+  each_by_index keyword d (s ∷ ss) i no_items p h = tt
+  each_by_index keyword d (s ∷ ss) i (item e ds) p h =
+      (sound d s (to_item i e) (at_index keyword i) p.0 (first_item d e i ds h), each_by_index keyword d ss (suc i) ds p.1 (next_items d e i ds h))
 
   from_start : (keyword : List ℕ) (d : Data) (s : S) (start : ℕ) → P s → AllByRecursion (Sound P R d) (each_item keyword s start (items_from start (items_of d)))
   from_start keyword d s start p = by_one keyword d s p start (items_from start (items_of d)) (items_lie d start)
@@ -89,9 +92,9 @@ module _ {S : Type 0} (P R : S → Type 0) where
       each_laid_flat (λ p. P p.1) (Sound P R d) (λ p. if_member (get p.0 d) (λ e. question p.1 stay (at_name keyword p.0) ∷ []))
       (λ p g. if_found d p.0 p.1 (at_name keyword p.0) (λ e. stay) g (λ e is. stay_keeps d) (get p.0 d) refl) ps h
 
-  of_members : (d : Data) (s : S) (added : List Part) → P s → (ms : List (List ℕ × Data)) → AllByRecursion (MemberLies d) ms
+  each_of_members : (d : Data) (s : S) (added : List Part) → P s → (ms : List (List ℕ × Data)) → AllByRecursion (MemberLies d) ms
       → AllByRecursion (Sound P R d) (map (λ m. question s (to_member m.0 m.1) added) ms)
-  of_members d s added p ms h =
+  each_of_members d s added p ms h =
       each_mapped (MemberLies d) (Sound P R d) (λ m. question s (to_member m.0 m.1) added) (λ m l. sound d s (to_member m.0 m.1) added p l.value) ms h
 
   matching : (matches : List ℕ → List ℕ → Bool) (keyword : List ℕ) (d : Data) (ps : List (List ℕ × S)) → AllByRecursion (λ p. P p.1) ps
@@ -99,33 +102,34 @@ module _ {S : Type 0} (P R : S → Type 0) where
   matching matches keyword d ps h =
       each_laid_flat (λ p. P p.1) (Sound P R d)
       (λ p. map (λ m. question p.1 (to_member m.0 m.1) (at_name keyword p.0)) (filter (λ m. matched matches p.0 m.0) (members_of d)))
-      (λ p g. of_members d p.1 (at_name keyword p.0) g (filter (λ m. matched matches p.0 m.0) (members_of d))
+      (λ p g. each_of_members d p.1 (at_name keyword p.0) g (filter (λ m. matched matches p.0 m.0) (members_of d))
       (each_kept (MemberLies d) (λ m. matched matches p.0 m.0) (members_of d) (members_lie d))) ps h
 
   others : (matches : List ℕ → List ℕ → Bool) (keyword : List ℕ) (among : Declared) (d : Data) (s : S) → P s
       → AllByRecursion (Sound P R d) (each_member keyword s (other_members matches among d))
   others matches keyword among d s p =
-      of_members d s (at keyword) p (other_members matches among d)
+      each_of_members d s (at keyword) p (other_members matches among d)
       (each_kept (MemberLies d) (λ m. not (is_declared matches among m.0)) (members_of d) (members_lie d))
 
-  of_names : (added : List Part) (d : Data) (s : S) → P s → (ms : List (List ℕ × Data)) → AllByRecursion (MemberLies d) ms
+  each_of_names : (added : List Part) (d : Data) (s : S) → P s → (ms : List (List ℕ × Data)) → AllByRecursion (MemberLies d) ms
       → AllByRecursion (Sound P R d) (each_name added s (map (λ m. m.0) ms))
-  of_names added d s p [] h = tt
-  of_names added d s p (m ∷ ms) h = (sound d s (to_name m.0) added p h.0.called, of_names added d s p ms h.1)
+  each_of_names added d s p [] h = tt
+  each_of_names added d s p (m ∷ ms) h = (sound d s (to_name m.0) added p h.0.called, each_of_names added d s p ms h.1)
 
-  if_applied : (d : Data) (k : List ℕ) (x : Dependency S) → IsApplied P x → AllByRecursion (Sound P R d) (applied k x)
-  if_applied d k (needs names) p = tt
-  if_applied d k (applies s) p = (sound_here d s (name k ∷ name (codes "dependencies") ∷ []) p, tt)
+  if_applied : (keyword : List ℕ) (d : Data) (k : List ℕ) (x : Dependency S) → IsApplied P x → AllByRecursion (Sound P R d) (applied keyword k x)
+  if_applied keyword d k (needs names) p = tt
+  if_applied keyword d k (applies s) p = (sound_here d s (at_name keyword k) p, tt)
 
-  if_there : (d : Data) (k : List ℕ) (x : Dependency S) → IsApplied P x → (o : Option Data) → AllByRecursion (Sound P R d) (if_member o (λ e. applied k x))
-  if_there d k x p None = tt
-  if_there d k x p (Some e) = if_applied d k x p
+  if_there : (keyword : List ℕ) (d : Data) (k : List ℕ) (x : Dependency S) → IsApplied P x → (o : Option Data)
+      → AllByRecursion (Sound P R d) (if_member o (λ e. applied keyword k x))
+  if_there keyword d k x p None = tt
+  if_there keyword d k x p (Some e) = if_applied keyword d k x p
 
-  depended : (d : Data) (ps : List (List ℕ × Dependency S)) → AllByRecursion (λ p. IsApplied P p.1) ps
-      → AllByRecursion (Sound P R d) (flat_map (λ p. if_member (get p.0 d) (λ e. applied p.0 p.1)) ps)
-  depended d ps h =
-      each_laid_flat (λ p. IsApplied P p.1) (Sound P R d) (λ p. if_member (get p.0 d) (λ e. applied p.0 p.1))
-      (λ p g. if_there d p.0 p.1 g (get p.0 d)) ps h
+  depended : (keyword : List ℕ) (d : Data) (ps : List (List ℕ × Dependency S)) → AllByRecursion (λ p. IsApplied P p.1) ps
+      → AllByRecursion (Sound P R d) (each_dependency keyword d ps)
+  depended keyword d ps h =
+      each_laid_flat (λ p. IsApplied P p.1) (Sound P R d) (λ p. if_member (get p.0 d) (λ e. applied keyword p.0 p.1))
+      (λ p g. if_there keyword d p.0 p.1 g (get p.0 d)) ps h
 
   counted_items : (d e : Data) (least most : Option ℕ) (qs : List (Question S)) → AllByRecursion (Sound P R e) qs → AllByRecursion (Sound P R e) (asks (counting d least most qs))
   counted_items null e least most qs h = tt
@@ -146,28 +150,30 @@ module _ {S : Type 0} (P R : S → Type 0) where
       (joined (λ c. Sound P R d c.1) (consequent true (codes "then") t) (consequent false (codes "else") e)
       (chosen_one d true (codes "then") t g) (chosen_one d false (codes "else") e h))
 
+  form_sound : (matches : List ℕ → List ℕ → Bool) (k : List ℕ) (d : Data) (form : Form S) → HoldsIn P form → AllByRecursion (Sound P R d) (asked matches k d form)
+  form_sound matches k d (each_from start s) h = from_start k d s start h
+  form_sound matches k d (by_index ss) h = each_by_index k d ss 0 (items_of d) h (all_items d)
+  form_sound matches k d (by_name ps) h = declared k d ps h
+  form_sound matches k d (by_pattern ps) h = matching matches k d ps h
+  form_sound matches k d (of_others among s) h = others matches k among d s h
+  form_sound matches k d (of_members s) h = each_of_members d s (at k) h (members_of d) (members_lie d)
+  form_sound matches k d (of_names s) h = each_of_names (at k) d s h (members_of d) (members_lie d)
+  form_sound matches k d (of_triggered ps) h = triggered k d ps h
+  form_sound matches k d (of_dependencies ps) h = depended k d ps h
+  form_sound matches k d (of_branches ss) h = branches k d 0 ss h
+  form_sound matches k d (of_value schema s) h = (sound_here d s (at k) h, tt)
+  form_sound matches k d (of_condition s t e) h = (sound_here d s (at k) h.0, conditioned d t e h.1 h.2)
+
   pub all_sound : (matches : List ℕ → List ℕ → Bool) (d : Data) (k : Shape S) → Holds P R k → AllByRecursion (Sound P R d) (asks (rule matches d k))
   all_sound matches d never h = tt
   all_sound matches d (asserts a) h = tt
-  all_sound matches d (items start s) h = from_start (codes "items") d s start h
-  all_sound matches d (item_list ss) h = by_index (codes "items") d ss 0 (items_of d) h (all_items d)
-  all_sound matches d (prefix_items ss) h = by_index (codes "prefixItems") d ss 0 (items_of d) h (all_items d)
-  all_sound matches d (additional_items start s) h = from_start (codes "additionalItems") d s start h
-  all_sound matches d (no_additional_items start s) h = from_start (codes "additionalItems") d s start h
+  all_sound matches d (asks_every k form) h = form_sound matches k d form h
+  all_sound matches d (asks_together k form) h = form_sound matches k d form h
+  all_sound matches d (asks_names k s) h = each_of_names (at k) d s h (members_of d) (members_lie d)
+  all_sound matches d (asks_some k form) h = form_sound matches k d form h
+  all_sound matches d (asks_one k form) h = form_sound matches k d form h
+  all_sound matches d (asks_no k schema s) h = (sound_here d s (at k) h, tt)
   all_sound matches d (contains s least most) h =
       counted_items d d least most (each_item (codes "contains") s 0 (items_of d)) (by_one (codes "contains") d s h 0 (items_of d) (all_items d))
-  all_sound matches d (properties ps) h = declared (codes "properties") d ps h
-  all_sound matches d (pattern_properties ps) h = matching matches (codes "patternProperties") d ps h
-  all_sound matches d (additional_properties among s) h = others matches (codes "additionalProperties") among d s h
-  all_sound matches d (no_additional_properties among s) h = others matches (codes "additionalProperties") among d s h
-  all_sound matches d (no_properties s) h = of_members d s (at (codes "additionalProperties")) h (members_of d) (members_lie d)
-  all_sound matches d (property_names s) h = of_names (at (codes "propertyNames")) d s h (members_of d) (members_lie d)
-  all_sound matches d (no_property_names s) h = of_names (at (codes "propertyNames")) d s h (members_of d) (members_lie d)
-  all_sound matches d (dependent_schemas ps) h = triggered (codes "dependentSchemas") d ps h
-  all_sound matches d (dependencies ps) h = depended d ps h
-  all_sound matches d (all_of ss) h = branches (codes "allOf") d 0 ss h
-  all_sound matches d (any_of ss) h = branches (codes "anyOf") d 0 ss h
-  all_sound matches d (one_of ss) h = branches (codes "oneOf") d 0 ss h
-  all_sound matches d (negation schema s) h = (sound_here d s (at (codes "not")) h, tt)
   all_sound matches d (condition s t e) h = (sound_here d s (at (codes "if")) h.0, conditioned d t e h.1 h.2)
   all_sound matches d (reference r s) h = (record { within = λ e. cc; led = λ e. h; step = stay_keeps d }, tt)

@@ -7,12 +7,12 @@ use Rattle.json_values.specs.Patterns.{matched, known}
 use Rattle.schema_meaning.specs.Members.{In, first, later, is_listed}
 use Rattle.schema_meaning.specs.Places.{whole}
 use Rattle.schema_meaning.specs.Questions.{listed_members, names_of}
-use Rattle.schema_meaning.specs.Keywords.{Assertion, types, constant, enumeration, multiple_of, maximum, exclusive_maximum, minimum, exclusive_minimum, maximum_of_draft_4, minimum_of_draft_4, max_length, min_length, pattern, max_items, min_items, unique_items, max_properties, min_properties, required, dependent_required, Shape, never, asserts, items, item_list, prefix_items, additional_items, no_additional_items, contains, properties, pattern_properties, additional_properties, no_additional_properties, no_properties, property_names, no_property_names, dependent_schemas, dependencies, all_of, any_of, one_of, negation, condition, reference}
-use Rattle.schema_meaning.specs.Matches.{of_text, of_names, asserted_matches, match_sites}
+use Rattle.schema_meaning.specs.Keywords.{Assertion, types, constant, enumeration, multiple_of, maximum, exclusive_maximum, minimum, exclusive_minimum, maximum_of_draft_4, minimum_of_draft_4, max_length, min_length, pattern, max_items, min_items, unique_items, max_properties, min_properties, required, dependent_required, Form, each_from, by_index, by_name, by_pattern, of_others, of_members, of_names, of_triggered, of_dependencies, of_branches, of_value, of_condition, Shape, never, asserts, asks_every, asks_together, asks_names, asks_some, asks_one, asks_no, contains, condition, reference}
+use Rattle.schema_meaning.specs.Matches.{of_text, with_names, asserted_matches, form_matches, match_sites}
 use Rattle.reading_laws.proofs.Elements.{in_rest}
 use Rattle.schema_patterns.specs.Texts.{texts_in, texts_of_members}
 use Rattle.schema_patterns.specs.Read.{reads, leaves, IsRead}
-use Rattle.reading_laws.specs.Asked.{pattern_in, patterns_of, IsAsked}
+use Rattle.reading_laws.specs.Asked.{pattern_in, patterns_in, patterns_of, IsAsked}
 use Rattle.reading_laws.specs.AskedLaws.{AskedMatchesAreKnown, MatchesAreRead}
 use Rattle.reading_laws.proofs.Reached.{led_is_reached, led_texts}
 
@@ -62,10 +62,10 @@ split x [] ys P f g i = g i
 split _ (x ∷ xs) ys P f g first = f first
 split x (z ∷ xs) ys P f g (later i) = split x xs ys P (λ j. f (later j)) g i
 
-of_patterns : {A : Type 0} (pattern_of : A → List ℕ) (d : Data) (xs : List A) (p t : List ℕ) → In (p, t) (flat_map (λ a. of_names d (pattern_of a)) xs) → Pair (map pattern_of xs) d p t
+of_patterns : {A : Type 0} (pattern_of : A → List ℕ) (d : Data) (xs : List A) (p t : List ℕ) → In (p, t) (flat_map (λ a. with_names d (pattern_of a)) xs) → Pair (map pattern_of xs) d p t
 of_patterns pattern_of d [] p t i = elim i [ ]
 of_patterns pattern_of d (a ∷ xs) p t i =
-    split (p, t) (of_names d (pattern_of a)) (flat_map (λ a. of_names d (pattern_of a)) xs) (Pair (map pattern_of (a ∷ xs)) d p t)
+    split (p, t) (with_names d (pattern_of a)) (flat_map (λ a. with_names d (pattern_of a)) xs) (Pair (map pattern_of (a ∷ xs)) d p t)
     (λ j. let o = of_one (pattern_of a) (names_of d) p t j in
     record { pattern = subst (λ q. In q (map pattern_of (a ∷ xs))) (sym o.pattern) first; text = named_text d t o.name })
     (λ j. let r = of_patterns pattern_of d xs p t j in record { pattern = later r.pattern; text = r.text }) i
@@ -74,7 +74,7 @@ map_same : (ps : List (List ℕ)) → map (λ p. p) ps ≡ ps
 map_same [] = refl
 map_same (p ∷ ps) = ap (λ qs. p ∷ qs) (map_same ps)
 
-declared_pair : (d : Data) (ps : List (List ℕ)) (p t : List ℕ) → In (p, t) (flat_map (of_names d) ps) → Pair ps d p t
+declared_pair : (d : Data) (ps : List (List ℕ)) (p t : List ℕ) → In (p, t) (flat_map (with_names d) ps) → Pair ps d p t
 declared_pair d ps p t i = subst (λ qs. Pair qs d p t) (map_same ps) (of_patterns (λ q. q) d ps p t i)
 
 asserted_pair : (a : Assertion) (d : Data) (p t : List ℕ) → In (p, t) (asserted_matches a d) → Pair (pattern_in a) d p t
@@ -99,28 +99,30 @@ asserted_pair (min_properties n) d p t i = of_none _ d p t i
 asserted_pair (required names) d p t i = of_none _ d p t i
 asserted_pair (dependent_required ps) d p t i = of_none _ d p t i
 
+form_pair : {S : Type 0} (d : Data) (form : Form S) (p t : List ℕ) → In (p, t) (form_matches d form) → Pair (patterns_in form) d p t
+form_pair d (each_from start s) p t i = of_none _ d p t i
+form_pair d (by_index ss) p t i = of_none _ d p t i
+form_pair d (by_name ps) p t i = of_none _ d p t i
+form_pair d (by_pattern ps) p t i = of_patterns (λ q. q.0) d ps p t i
+form_pair d (of_others declared s) p t i = declared_pair d declared.patterns p t i
+form_pair d (of_members s) p t i = of_none _ d p t i
+form_pair d (of_names s) p t i = of_none _ d p t i
+form_pair d (of_triggered ps) p t i = of_none _ d p t i
+form_pair d (of_dependencies ps) p t i = of_none _ d p t i
+form_pair d (of_branches ss) p t i = of_none _ d p t i
+form_pair d (of_value schema s) p t i = of_none _ d p t i
+form_pair d (of_condition s h e) p t i = of_none _ d p t i
+
 pair : {S : Type 0} (d : Data) (k : Shape S) (p t : List ℕ) → In (p, t) (match_sites d k) → Pair (patterns_of k) d p t
 pair d never p t i = of_none _ d p t i
 pair d (asserts a) p t i = asserted_pair a d p t i
-pair d (items start s) p t i = of_none _ d p t i
-pair d (item_list ss) p t i = of_none _ d p t i
-pair d (prefix_items ss) p t i = of_none _ d p t i
-pair d (additional_items start s) p t i = of_none _ d p t i
-pair d (no_additional_items start s) p t i = of_none _ d p t i
+pair d (asks_every k form) p t i = form_pair d form p t i
+pair d (asks_together k form) p t i = form_pair d form p t i
+pair d (asks_names k s) p t i = of_none _ d p t i
+pair d (asks_some k form) p t i = form_pair d form p t i
+pair d (asks_one k form) p t i = form_pair d form p t i
+pair d (asks_no k schema s) p t i = of_none _ d p t i
 pair d (contains s least most) p t i = of_none _ d p t i
-pair d (properties ps) p t i = of_none _ d p t i
-pair d (pattern_properties ps) p t i = of_patterns (λ q. q.0) d ps p t i
-pair d (additional_properties declared s) p t i = declared_pair d declared.patterns p t i
-pair d (no_additional_properties declared s) p t i = declared_pair d declared.patterns p t i
-pair d (no_properties s) p t i = of_none _ d p t i
-pair d (property_names s) p t i = of_none _ d p t i
-pair d (no_property_names s) p t i = of_none _ d p t i
-pair d (dependent_schemas ps) p t i = of_none _ d p t i
-pair d (dependencies ps) p t i = of_none _ d p t i
-pair d (all_of ss) p t i = of_none _ d p t i
-pair d (any_of ss) p t i = of_none _ d p t i
-pair d (one_of ss) p t i = of_none _ d p t i
-pair d (negation schema s) p t i = of_none _ d p t i
 pair d (condition s h e) p t i = of_none _ d p t i
 pair d (reference r s) p t i = of_none _ d p t i
 

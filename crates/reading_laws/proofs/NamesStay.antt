@@ -6,7 +6,7 @@ use Rattle.schema_meaning.specs.Members.{In, first, later}
 use Rattle.schema_meaning.specs.Places.{stay}
 use Rattle.schema_meaning.specs.Questions.{Question, at_index, each_branch, item_by_item, items_of, question, here}
 use Rattle.schema_meaning.specs.Rules.{asks, consequents}
-use Rattle.schema_meaning.specs.Keywords.{Shape, never, asserts, items, item_list, prefix_items, additional_items, no_additional_items, contains, properties, pattern_properties, additional_properties, no_additional_properties, no_properties, property_names, no_property_names, dependent_schemas, dependencies, all_of, any_of, one_of, negation, condition, reference, consequent, rule}
+use Rattle.schema_meaning.specs.Keywords.{Form, each_from, by_index, by_name, by_pattern, of_others, of_members, of_names, of_triggered, of_dependencies, of_branches, of_value, of_condition, Shape, never, asserts, asks_every, asks_together, asks_names, asks_some, asks_one, asks_no, contains, condition, reference, consequent, asked, rule}
 
 abbrev pub Stay : {S : Type 0} → List (Question S) → Type 0
 Stay {S} qs = (q : Question S) → In q qs → q.step ≡ stay
@@ -42,28 +42,32 @@ module _ {S : Type 0} where
   last_stays b keyword None = none_asked
   last_stays b keyword (Some s) = one_more (here keyword s) [] refl none_asked
 
+  chosen_stay : (t e : Option S) → Stay (consequents (consequent true (codes "then") t ++ consequent false (codes "else") e))
+  chosen_stay t e = beside_stay true (codes "then") t (consequent false (codes "else") e) (last_stays false (codes "else") e)
+
+  form_stays : (matches : List ℕ → List ℕ → Bool) (keyword k : List ℕ) (form : Form S) → Stay (asked matches keyword (string k) form)
+  form_stays matches keyword k (each_from start s) = none_asked
+  form_stays matches keyword k (by_index ss) = no_item keyword k ss
+  form_stays matches keyword k (by_name ps) = none_laid _ (λ p. refl) ps
+  form_stays matches keyword k (by_pattern ps) = none_laid _ (λ p. refl) ps
+  form_stays matches keyword k (of_others declared s) = none_asked
+  form_stays matches keyword k (of_members s) = none_asked
+  form_stays matches keyword k (of_names s) = none_asked
+  form_stays matches keyword k (of_triggered ps) = none_laid _ (λ p. refl) ps
+  form_stays matches keyword k (of_dependencies ps) = none_laid _ (λ p. refl) ps
+  form_stays matches keyword k (of_branches ss) = branches_stay keyword 0 ss
+  form_stays matches keyword k (of_value schema s) = one_more (here keyword s) [] refl none_asked
+  form_stays matches keyword k (of_condition s t e) = one_more (here keyword s) _ refl (chosen_stay t e)
+
   pub asked_stay : (matches : List ℕ → List ℕ → Bool) (k : List ℕ) (x : Shape S) → Stay (asks (rule matches (string k) x))
   asked_stay matches k never = none_asked
   asked_stay matches k (asserts a) = none_asked
-  asked_stay matches k (items start s) = none_asked
-  asked_stay matches k (item_list ss) = no_item (codes "items") k ss
-  asked_stay matches k (prefix_items ss) = no_item (codes "prefixItems") k ss
-  asked_stay matches k (additional_items start s) = none_asked
-  asked_stay matches k (no_additional_items start s) = none_asked
+  asked_stay matches k (asks_every keyword form) = form_stays matches keyword k form
+  asked_stay matches k (asks_together keyword form) = form_stays matches keyword k form
+  asked_stay matches k (asks_names keyword s) = none_asked
+  asked_stay matches k (asks_some keyword form) = form_stays matches keyword k form
+  asked_stay matches k (asks_one keyword form) = form_stays matches keyword k form
+  asked_stay matches k (asks_no keyword schema s) = one_more (here keyword s) [] refl none_asked
   asked_stay matches k (contains s least most) = none_asked
-  asked_stay matches k (properties ps) = none_laid _ (λ p. refl) ps
-  asked_stay matches k (pattern_properties ps) = none_laid _ (λ p. refl) ps
-  asked_stay matches k (additional_properties declared s) = none_asked
-  asked_stay matches k (no_additional_properties declared s) = none_asked
-  asked_stay matches k (no_properties s) = none_asked
-  asked_stay matches k (property_names s) = none_asked
-  asked_stay matches k (no_property_names s) = none_asked
-  asked_stay matches k (dependent_schemas ps) = none_laid _ (λ p. refl) ps
-  asked_stay matches k (dependencies ps) = none_laid _ (λ p. refl) ps
-  asked_stay matches k (all_of ss) = branches_stay (codes "allOf") 0 ss
-  asked_stay matches k (any_of ss) = branches_stay (codes "anyOf") 0 ss
-  asked_stay matches k (one_of ss) = branches_stay (codes "oneOf") 0 ss
-  asked_stay matches k (negation schema s) = one_more (here (codes "not") s) [] refl none_asked
-  asked_stay matches k (condition s t e) =
-      one_more (here (codes "if") s) _ refl (beside_stay true (codes "then") t (consequent false (codes "else") e) (last_stays false (codes "else") e))
+  asked_stay matches k (condition s t e) = one_more (here (codes "if") s) _ refl (chosen_stay t e)
   asked_stay matches k (reference r s) = one_more _ [] refl none_asked

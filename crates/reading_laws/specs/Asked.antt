@@ -4,7 +4,7 @@ use Rattle.serde_json.specs.Data.{Data}
 use Rattle.json_values.specs.Patterns.{matched, known}
 use Rattle.schema_meaning.specs.Members.{In, is_listed}
 use Rattle.schema_meaning.specs.Places.{Spot, Key, whole}
-use Rattle.schema_meaning.specs.Keywords.{Assertion, types, constant, enumeration, multiple_of, maximum, exclusive_maximum, minimum, exclusive_minimum, maximum_of_draft_4, minimum_of_draft_4, max_length, min_length, pattern, max_items, min_items, unique_items, max_properties, min_properties, required, dependent_required, Shape, never, asserts, items, item_list, prefix_items, additional_items, no_additional_items, contains, properties, pattern_properties, additional_properties, no_additional_properties, no_properties, property_names, no_property_names, dependent_schemas, dependencies, all_of, any_of, one_of, negation, condition, reference}
+use Rattle.schema_meaning.specs.Keywords.{Assertion, types, constant, enumeration, multiple_of, maximum, exclusive_maximum, minimum, exclusive_minimum, maximum_of_draft_4, minimum_of_draft_4, max_length, min_length, pattern, max_items, min_items, unique_items, max_properties, min_properties, required, dependent_required, Form, each_from, by_index, by_name, by_pattern, of_others, of_members, of_names, of_triggered, of_dependencies, of_branches, of_value, of_condition, Shape, never, asserts, asks_every, asks_together, asks_names, asks_some, asks_one, asks_no, contains, condition, reference}
 use Rattle.schema_meaning.specs.Matches.{match_sites}
 use Rattle.schema_meaning.specs.Circular.{Leads}
 use Rattle.schema_definitions.specs.Bearers.{Documents}
@@ -35,29 +35,32 @@ pattern_in (min_properties n) = []
 pattern_in (required names) = []
 pattern_in (dependent_required ps) = []
 
+-- the patterns of what is asked
+abbrev pub patterns_in : {S : Type 0} → Form S → List (List ℕ)
+patterns_in (each_from start s) = []
+patterns_in (by_index ss) = []
+patterns_in (by_name ps) = []
+patterns_in (by_pattern ps) = map (λ p. p.0) ps
+patterns_in (of_others declared s) = declared.patterns
+patterns_in (of_members s) = []
+patterns_in (of_names s) = []
+patterns_in (of_triggered ps) = []
+patterns_in (of_dependencies ps) = []
+patterns_in (of_branches ss) = []
+patterns_in (of_value schema s) = []
+patterns_in (of_condition s t e) = []
+
 -- the patterns of a keyword
 abbrev pub patterns_of : {S : Type 0} → Shape S → List (List ℕ)
 patterns_of never = []
 patterns_of (asserts a) = pattern_in a
-patterns_of (items start s) = []
-patterns_of (item_list ss) = []
-patterns_of (prefix_items ss) = []
-patterns_of (additional_items start s) = []
-patterns_of (no_additional_items start s) = []
+patterns_of (asks_every k form) = patterns_in form
+patterns_of (asks_together k form) = patterns_in form
+patterns_of (asks_names k s) = []
+patterns_of (asks_some k form) = patterns_in form
+patterns_of (asks_one k form) = patterns_in form
+patterns_of (asks_no k schema s) = []
 patterns_of (contains s least most) = []
-patterns_of (properties ps) = []
-patterns_of (pattern_properties ps) = map (λ p. p.0) ps
-patterns_of (additional_properties declared s) = declared.patterns
-patterns_of (no_additional_properties declared s) = declared.patterns
-patterns_of (no_properties s) = []
-patterns_of (property_names s) = []
-patterns_of (no_property_names s) = []
-patterns_of (dependent_schemas ps) = []
-patterns_of (dependencies ps) = []
-patterns_of (all_of ss) = []
-patterns_of (any_of ss) = []
-patterns_of (one_of ss) = []
-patterns_of (negation schema s) = []
 patterns_of (condition s t e) = []
 patterns_of (reference r s) = []
 

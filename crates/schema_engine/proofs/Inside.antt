@@ -5,14 +5,14 @@ use Rattle.std.specs.Ordering.{nat_cmp, match_ordering}
 use Rattle.std.specs.Cmp.Lexicographic.{slice_cmp}
 use Rattle.serde_json.specs.Data.{Data, null, boolean, number, string, array, object, Items, no_items, item, Members, no_members, member, depth, items_depth, members_depth}
 use Rattle.serde_json.specs.Find.{get, get_member}
-use Rattle.json_values.specs.Parts.{Part, name}
+use Rattle.json_values.specs.Parts.{Part}
 use Rattle.json_values.specs.Patterns.{matched}
 use Rattle.schema_meaning.specs.Members.{In, first, later}
 use Rattle.schema_meaning.specs.Places.{stay, to_item, to_member, to_name}
-use Rattle.schema_meaning.specs.Questions.{Question, question, at, at_name, at_index, each_branch, items_of, items_from, each_item, item_by_item, listed_members, members_of, if_member, each_declared, each_matching, each_name, each_triggered}
+use Rattle.schema_meaning.specs.Questions.{Question, question, here, at, at_name, at_index, each_branch, items_of, items_from, each_item, item_by_item, listed_members, members_of, if_member, each_declared, each_matching, each_name, each_triggered}
 use Rattle.schema_meaning.specs.Rules.{asks, consequents}
-use Rattle.schema_meaning.specs.Keywords.{Shape, never, asserts, items, item_list, prefix_items, additional_items, no_additional_items, contains, properties, pattern_properties, additional_properties, no_additional_properties, no_properties, property_names, no_property_names, dependent_schemas, dependencies, all_of, any_of, one_of, negation, condition, reference, Dependency, needs, applies, rule, counting, consequent, applied}
-use Rattle.schema_engine.specs.Leads.{if_some, if_applies, leads_of}
+use Rattle.schema_meaning.specs.Keywords.{Dependency, needs, applies, Form, each_from, by_index, by_name, by_pattern, of_others, of_members, of_names, of_triggered, of_dependencies, of_branches, of_value, of_condition, Shape, never, asserts, asks_every, asks_together, asks_names, asks_some, asks_one, asks_no, contains, condition, reference, rule, asked, counting, consequent, applied, each_dependency}
+use Rattle.schema_engine.specs.Leads.{if_some, if_applies, nodes_of, leads_of}
 use Rattle.schema_engine.specs.Verdicts.{GoesDown}
 
 pub record IsInside (P : Bool → ℕ → Type 0) (d : Data) (q : Question ℕ) : Type 0 where
@@ -103,6 +103,12 @@ in_flat f x y (z ∷ xs) first j = in_front y (f z) (flat_map f xs) j
 in_flat f x y (z ∷ xs) (later i) j = in_rest y (f z) (flat_map f xs) (in_flat f x y xs i j)
 
 -- ---- lists of questions
+
+in_either : (cs es : List (Bool × Question ℕ)) (P : Question ℕ → Type 0) → ((q : Question ℕ) → In q (consequents cs) → P q) → ((q : Question ℕ) → In q (consequents es) → P q)
+    → (q : Question ℕ) → In q (consequents (cs ++ es)) → P q
+in_either [] es P f h q i = h q i
+in_either (c ∷ cs) es P f h q first = f q first
+in_either (c ∷ cs) es P f h q (later i) = in_either cs es P (λ p j. f p (later j)) h q i
 
 module _ (P : Bool → ℕ → Type 0) where
   none_inside : (d : Data) → AreInside P d []
@@ -197,9 +203,15 @@ module _ (P : Bool → ℕ → Type 0) where
       flat_inside d (λ p. if_member (get p.0 d) (λ e. question p.1 stay (at_name keyword p.0) ∷ [])) ps
       (λ p i. if_member_inside d p.0 (λ e. question p.1 stay (at_name keyword p.0) ∷ []) (λ e less. one_here d p.1 (at_name keyword p.0) (h p.1 (in_mapped_to (λ x. x.1) p ps i))))
 
-  applied_inside : (d : Data) (k : List ℕ) (x : Dependency ℕ) → ((s : ℕ) → In s (if_applies x) → P false s) → AreInside P d (applied k x)
-  applied_inside d k (needs names) h = none_inside d
-  applied_inside d k (applies s) h = one_here d s (name k ∷ name (codes "dependencies") ∷ []) (h s first)
+  applied_inside : (d : Data) (keyword k : List ℕ) (x : Dependency ℕ) → ((s : ℕ) → In s (if_applies x) → P false s) → AreInside P d (applied keyword k x)
+  applied_inside d keyword k (needs names) h = none_inside d
+  applied_inside d keyword k (applies s) h = one_here d s (at_name keyword k) (h s first)
+
+  dependencies_inside : (d : Data) (keyword : List ℕ) (ps : List (List ℕ × Dependency ℕ)) → ((s : ℕ) → In s (flat_map (λ p. if_applies p.1) ps) → P false s)
+      → AreInside P d (each_dependency keyword d ps)
+  dependencies_inside d keyword ps h =
+      flat_inside d (λ p. if_member (get p.0 d) (λ e. applied keyword p.0 p.1)) ps
+      (λ p i. if_member_inside d p.0 (λ e. applied keyword p.0 p.1) (λ e less. applied_inside d keyword p.0 p.1 (λ s j. h s (in_flat (λ x. if_applies x.1) p s ps i j))))
 
   members_inside : (d : Data) (s : ℕ) (added : List Part) (ms : List (List ℕ × Data)) → P false s → AreLess d ms → AreInside P d (map (λ m. question s (to_member m.0 m.1) added) ms)
   members_inside d s added [] p less = none_inside d
@@ -220,6 +232,16 @@ module _ (P : Bool → ℕ → Type 0) where
   consequent_inside d b keyword None h q i = elim i [ ]
   consequent_inside d b keyword (Some s) h q i = (one_here d s (at keyword) (h s first)).each q i
 
+  condition_inside : (d : Data) (keyword : List ℕ) (s : ℕ) (t e : Option ℕ) → ((n : ℕ) → In n (s ∷ (if_some t ++ if_some e)) → P false n)
+      → AreInside P d (here keyword s ∷ consequents (consequent true (codes "then") t ++ consequent false (codes "else") e))
+  condition_inside d keyword s t e h =
+      more_inside d _ _ (stays_here d s (at keyword) (h s first))
+      (record {
+        each = in_either (consequent true (codes "then") t) (consequent false (codes "else") e) (IsInside P d)
+            (consequent_inside d true (codes "then") t (λ n i. h n (later (in_front n (if_some t) (if_some e) i))))
+            (consequent_inside d false (codes "else") e (λ n i. h n (later (in_rest n (if_some t) (if_some e) i))));
+      })
+
   counting_inside : (d : Data) (least most : Option ℕ) (s : ℕ) → P false s → AreInside P d (asks (counting d least most (each_item (codes "contains") s 0 (items_of d))))
   counting_inside null least most s p = none_inside null
   counting_inside (boolean b) least most s p = none_inside (boolean b)
@@ -228,13 +250,23 @@ module _ (P : Bool → ℕ → Type 0) where
   counting_inside (object ms) least most s p = none_inside (object ms)
   counting_inside (array ds) least most s p = each_item_inside (array ds) (codes "contains") s 0 ds p (omega arith)
 
--- ---- each keyword
+  -- ---- whatever is asked
 
-in_either : (cs es : List (Bool × Question ℕ)) (P : Question ℕ → Type 0) → ((q : Question ℕ) → In q (consequents cs) → P q) → ((q : Question ℕ) → In q (consequents es) → P q)
-    → (q : Question ℕ) → In q (consequents (cs ++ es)) → P q
-in_either [] es P f h q i = h q i
-in_either (c ∷ cs) es P f h q first = f q first
-in_either (c ∷ cs) es P f h q (later i) = in_either cs es P (λ p j. f p (later j)) h q i
+  form_inside : (matches : List ℕ → List ℕ → Bool) (d : Data) (k : List ℕ) (form : Form ℕ) → ((s : ℕ) → In s (nodes_of form) → P false s) → AreInside P d (asked matches k d form)
+  form_inside matches d k (each_from start s) h = items_inside d k s start start (h s first)
+  form_inside matches d k (by_index ss) h = list_inside d k ss h
+  form_inside matches d k (by_name ps) h = declared_inside d k ps h
+  form_inside matches d k (by_pattern ps) h = matching_inside matches d k ps h
+  form_inside matches d k (of_others declared s) h = members_inside d s (at k) _ (h s first) (kept_less d _)
+  form_inside matches d k (of_members s) h = members_inside d s (at k) _ (h s first) (members_less d)
+  form_inside matches d k (of_names s) h = names_inside d s (at k) (members_of d) (h s first) (members_less d)
+  form_inside matches d k (of_triggered ps) h = triggered_inside d k ps h
+  form_inside matches d k (of_dependencies ps) h = dependencies_inside d k ps h
+  form_inside matches d k (of_branches ss) h = branches_inside d k 0 ss h
+  form_inside matches d k (of_value schema s) h = one_here d s (at k) (h s first)
+  form_inside matches d k (of_condition s t e) h = condition_inside d k s t e h
+
+-- ---- each keyword
 
 -- leads to what stands in the keyword
 abbrev pub LeadsTo : Shape ℕ → Bool → ℕ → Type 0
@@ -243,34 +275,14 @@ LeadsTo s follows n = In n (leads_of follows s)
 all_inside : (matches : List ℕ → List ℕ → Bool) (d : Data) (s : Shape ℕ) → AreInside (LeadsTo s) d (asks (rule matches d s))
 all_inside matches d never = none_inside _ d
 all_inside matches d (asserts a) = none_inside _ d
-all_inside matches d (items start s) = items_inside _ d (codes "items") s start start first
-all_inside matches d (item_list ss) = list_inside _ d (codes "items") ss (λ s i. i)
-all_inside matches d (prefix_items ss) = list_inside _ d (codes "prefixItems") ss (λ s i. i)
-all_inside matches d (additional_items start s) = items_inside _ d (codes "additionalItems") s start start first
-all_inside matches d (no_additional_items start s) = items_inside _ d (codes "additionalItems") s start start first
+all_inside matches d (asks_every k form) = form_inside _ matches d k form (λ s i. i)
+all_inside matches d (asks_together k form) = form_inside _ matches d k form (λ s i. i)
+all_inside matches d (asks_names k s) = names_inside _ d s (at k) (members_of d) first (members_less d)
+all_inside matches d (asks_some k form) = form_inside _ matches d k form (λ s i. i)
+all_inside matches d (asks_one k form) = form_inside _ matches d k form (λ s i. i)
+all_inside matches d (asks_no k schema s) = one_here _ d s (at k) first
 all_inside matches d (contains s least most) = counting_inside _ d least most s first
-all_inside matches d (properties ps) = declared_inside _ d (codes "properties") ps (λ s i. i)
-all_inside matches d (pattern_properties ps) = matching_inside _ matches d (codes "patternProperties") ps (λ s i. i)
-all_inside matches d (additional_properties declared s) = members_inside _ d s (at (codes "additionalProperties")) _ first (kept_less d _)
-all_inside matches d (no_additional_properties declared s) = members_inside _ d s (at (codes "additionalProperties")) _ first (kept_less d _)
-all_inside matches d (no_properties s) = members_inside _ d s (at (codes "additionalProperties")) _ first (members_less d)
-all_inside matches d (property_names s) = names_inside _ d s (at (codes "propertyNames")) (members_of d) first (members_less d)
-all_inside matches d (no_property_names s) = names_inside _ d s (at (codes "propertyNames")) (members_of d) first (members_less d)
-all_inside matches d (dependent_schemas ps) = triggered_inside _ d (codes "dependentSchemas") ps (λ s i. i)
-all_inside matches d (dependencies ps) =
-    flat_inside _ d (λ p. if_member (get p.0 d) (λ e. applied p.0 p.1)) ps
-    (λ p i. if_member_inside _ d p.0 (λ e. applied p.0 p.1) (λ e less. applied_inside _ d p.0 p.1 (λ s j. in_flat (λ x. if_applies x.1) p s ps i j)))
-all_inside matches d (all_of ss) = branches_inside _ d (codes "allOf") 0 ss (λ s i. i)
-all_inside matches d (any_of ss) = branches_inside _ d (codes "anyOf") 0 ss (λ s i. i)
-all_inside matches d (one_of ss) = branches_inside _ d (codes "oneOf") 0 ss (λ s i. i)
-all_inside matches d (negation schema s) = one_here _ d s (at (codes "not")) first
-all_inside matches d (condition s t e) =
-    more_inside _ d _ _ (stays_here _ d s (at (codes "if")) first)
-    (record {
-      each = in_either (consequent true (codes "then") t) (consequent false (codes "else") e) (IsInside (LeadsTo (condition s t e)) d)
-          (consequent_inside _ d true (codes "then") t (λ n i. later (in_front n (if_some t) (if_some e) i)))
-          (consequent_inside _ d false (codes "else") e (λ n i. later (in_rest n (if_some t) (if_some e) i)));
-    })
+all_inside matches d (condition s t e) = condition_inside _ d (codes "if") s t e (λ n i. i)
 all_inside matches d (reference r s) = more_inside _ d _ [] (record { down = tt; stays = λ g. refl; leads = first }) (none_inside _ d)
 
 pub inside : (matches : List ℕ → List ℕ → Bool) (d : Data) (s : Shape ℕ) (q : Question ℕ) → In q (asks (rule matches d s)) → IsInside (LeadsTo s) d q

@@ -1,5 +1,5 @@
--- The keywords, each already read from its value and the neighbours that it reads, over sites of subschemas,
--- and the rule that each follows at a value. Sections are those of JSON Schema Validation 2020-12 (V) and Core 2020-12 (C).
+-- The keywords, each already read from its value and the neighbours that it reads: a name, what it asks over sites of
+-- subschemas, and the rule that it follows at a value. Sections are those of JSON Schema Validation 2020-12 (V) and Core 2020-12 (C).
 use Rattle.std.specs.Prelude.{ℕ, ℤ, nat_le, List, [], ◌∷◌, ◌++◌, map, Bool, true, false, Option, Some, None, codes}
 use Rattle.std.specs.List.{filter, flat_map}
 use Rattle.serde_json.specs.Data.{Data, null, boolean, number, string, array, object, Items, Members}
@@ -9,11 +9,10 @@ use Rattle.json_values.specs.Equality.{equal, is_among, all_distinct}
 use Rattle.json_values.specs.Numbers.{number_is, at_least, at_most, above, below, is_multiple}
 use Rattle.json_values.specs.Texts.{code_points, count_items, count_members}
 use Rattle.json_values.specs.Patterns.{matched}
-use Rattle.json_values.specs.Parts.{name}
 use Rattle.schema_meaning.specs.Places.{stay}
-use Rattle.schema_meaning.specs.Faults.{Kind, AdditionalItems, AdditionalProperties, Constant, Enumeration, ExclusiveMaximum, ExclusiveMinimum, FalseSchema, MaxItems, Maximum, MaxLength, MaxProperties, MinItems, Minimum, MinLength, MinProperties, MultipleOf, Pattern, Required, Types, UniqueItems}
-use Rattle.schema_meaning.specs.Questions.{Question, question, at, here, each_branch, items_of, items_from, each_item, item_by_item, members_of, if_member, each_declared, each_matching, Declared, other_members, each_member, each_name, names_of, each_triggered}
-use Rattle.schema_meaning.specs.Rules.{Note, Rule, every, together, each_named, some_branch, one_branch, refusal, counted, conditional}
+use Rattle.schema_meaning.specs.Faults.{Kind, AdditionalItems, AdditionalProperties, Constant, Enumeration, ExclusiveMaximum, ExclusiveMinimum, FalseSchema, MaxItems, Maximum, MaxLength, MaxProperties, MinItems, Minimum, MinLength, MinProperties, MultipleOf, Not, Pattern, Required, Types, UniqueItems}
+use Rattle.schema_meaning.specs.Questions.{Question, question, at, at_name, here, each_branch, items_of, items_from, each_item, item_by_item, members_of, if_member, each_declared, each_matching, Declared, other_members, each_member, each_name, names_of, each_triggered}
+use Rattle.schema_meaning.specs.Rules.{Note, Rule, every, together, each_named, some_branch, one_branch, refusal, counted, conditional, consequents}
 
 -- ---- assertions: keywords without subschemas
 
@@ -53,42 +52,112 @@ pub data Dependency (S : Type 0) : Type 0 where
   needs : List (List ℕ) → Dependency S
   applies : S → Dependency S
 
--- ---- keywords over sites
+-- ---- what keywords ask of a value, over sites
+
+pub data Form (S : Type 0) : Type 0 where
+  -- each item from a start on, by one schema
+  each_from : ℕ → S → Form S
+  -- each item, by the schema of its index
+  by_index : List S → Form S
+  -- each member of these names, by its name's schema
+  by_name : List (List ℕ × S) → Form S
+  -- each member whose name one of these patterns matches, by the pattern's schema
+  by_pattern : List (List ℕ × S) → Form S
+  -- each member that is not declared beside; each member; each member's name: by one schema
+  of_others : Declared → S → Form S
+  of_members : S → Form S
+  of_names : S → Form S
+  -- the value, by the schema of each of these names that is a member's
+  of_triggered : List (List ℕ × S) → Form S
+  of_dependencies : List (List ℕ × Dependency S) → Form S
+  -- the value, by each schema of a list; by one schema, with its text
+  of_branches : List S → Form S
+  of_value : Data → S → Form S
+  -- the value, by the first schema, and by those beside
+  of_condition : S → Option S → Option S → Form S
+
+-- ---- keywords over sites: a name, what is asked, and the rule by which the answers count
 
 pub data Shape (S : Type 0) : Type 0 where
   -- the schema `false`
   never : Shape S
   asserts : Assertion → Shape S
-  -- one schema for the items from the start-th on
-  items : ℕ → S → Shape S
-  -- `items` as a list, and `prefixItems`: a schema an index
-  item_list : List S → Shape S
-  prefix_items : List S → Shape S
-  -- beside `items` as a list: a schema for the items from the start-th on; a `false` one
-  additional_items : ℕ → S → Shape S
-  no_additional_items : ℕ → S → Shape S
-  -- with `minContains` and `maxContains` where they stand beside
+  -- every answer has to be yes; the faults are those below
+  asks_every : List ℕ → Form S → Shape S
+  -- every answer has to be yes, and one fault speaks for all
+  asks_together : List ℕ → Form S → Shape S
+  -- a schema for each member's name
+  asks_names : List ℕ → S → Shape S
+  -- one answer or more has to be yes; exactly one
+  asks_some : List ℕ → Form S → Shape S
+  asks_one : List ℕ → Form S → Shape S
+  -- the answer has to be no; with the schema's own text, which the fault carries
+  asks_no : List ℕ → Data → S → Shape S
+  -- `contains`, with `minContains` and `maxContains` where they stand beside
   contains : S → Option ℕ → Option ℕ → Shape S
-  properties : List (List ℕ × S) → Shape S
-  pattern_properties : List (List ℕ × S) → Shape S
-  -- with what `properties` and `patternProperties` beside declare; a `false` one; a `false` one where neither stands beside
-  additional_properties : Declared → S → Shape S
-  no_additional_properties : Declared → S → Shape S
-  no_properties : S → Shape S
-  -- a schema for each name; a `false` one
-  property_names : S → Shape S
-  no_property_names : S → Shape S
-  dependent_schemas : List (List ℕ × S) → Shape S
-  dependencies : List (List ℕ × Dependency S) → Shape S
-  all_of : List S → Shape S
-  any_of : List S → Shape S
-  one_of : List S → Shape S
-  -- with the schema's own text, which the fault carries
-  negation : Data → S → Shape S
   -- `if` with `then` and `else` where they stand beside
   condition : S → Option S → Option S → Shape S
   -- a reference, over the site of its target
   reference : Reference → S → Shape S
+
+-- one schema for the items from the start-th on
+abbrev pub items : {S : Type 0} → ℕ → S → Shape S
+items start s = asks_every (codes "items") (each_from start s)
+
+-- `items` as a list, and `prefixItems`: a schema an index
+abbrev pub item_list : {S : Type 0} → List S → Shape S
+item_list ss = asks_every (codes "items") (by_index ss)
+
+abbrev pub prefix_items : {S : Type 0} → List S → Shape S
+prefix_items ss = asks_every (codes "prefixItems") (by_index ss)
+
+-- beside `items` as a list: a schema for the items from the start-th on; a `false` one
+abbrev pub additional_items : {S : Type 0} → ℕ → S → Shape S
+additional_items start s = asks_every (codes "additionalItems") (each_from start s)
+
+abbrev pub no_additional_items : {S : Type 0} → ℕ → S → Shape S
+no_additional_items start s = asks_together (codes "additionalItems") (each_from start s)
+
+abbrev pub properties : {S : Type 0} → List (List ℕ × S) → Shape S
+properties ps = asks_every (codes "properties") (by_name ps)
+
+abbrev pub pattern_properties : {S : Type 0} → List (List ℕ × S) → Shape S
+pattern_properties ps = asks_every (codes "patternProperties") (by_pattern ps)
+
+-- with what `properties` and `patternProperties` beside declare; a `false` one; a `false` one where neither stands beside
+abbrev pub additional_properties : {S : Type 0} → Declared → S → Shape S
+additional_properties declared s = asks_every (codes "additionalProperties") (of_others declared s)
+
+abbrev pub no_additional_properties : {S : Type 0} → Declared → S → Shape S
+no_additional_properties declared s = asks_together (codes "additionalProperties") (of_others declared s)
+
+abbrev pub no_properties : {S : Type 0} → S → Shape S
+no_properties s = asks_together (codes "additionalProperties") (of_members s)
+
+-- a schema for each name; a `false` one
+abbrev pub property_names : {S : Type 0} → S → Shape S
+property_names s = asks_names (codes "propertyNames") s
+
+abbrev pub no_property_names : {S : Type 0} → S → Shape S
+no_property_names s = asks_together (codes "propertyNames") (of_names s)
+
+abbrev pub dependent_schemas : {S : Type 0} → List (List ℕ × S) → Shape S
+dependent_schemas ps = asks_every (codes "dependentSchemas") (of_triggered ps)
+
+abbrev pub dependencies : {S : Type 0} → List (List ℕ × Dependency S) → Shape S
+dependencies ps = asks_every (codes "dependencies") (of_dependencies ps)
+
+abbrev pub all_of : {S : Type 0} → List S → Shape S
+all_of ss = asks_every (codes "allOf") (of_branches ss)
+
+abbrev pub any_of : {S : Type 0} → List S → Shape S
+any_of ss = asks_some (codes "anyOf") (of_branches ss)
+
+abbrev pub one_of : {S : Type 0} → List S → Shape S
+one_of ss = asks_one (codes "oneOf") (of_branches ss)
+
+abbrev pub negation : {S : Type 0} → Data → S → Shape S
+negation schema s = asks_no (codes "not") schema s
 
 -- ---- what an assertion finds wrong
 
@@ -208,9 +277,9 @@ abbrev pub needed : {S : Type 0} → Data → Dependency S → List Note
 needed d (needs names) = missing names d
 needed d (applies s) = []
 
-abbrev pub applied : {S : Type 0} → List ℕ → Dependency S → List (Question S)
-applied k (needs names) = []
-applied k (applies s) = question s stay (name k ∷ name (codes "dependencies") ∷ []) ∷ []
+abbrev pub applied : {S : Type 0} → List ℕ → List ℕ → Dependency S → List (Question S)
+applied keyword k (needs names) = []
+applied keyword k (applies s) = question s stay (at_name keyword k) ∷ []
 
 abbrev pub consequent : {S : Type 0} → Bool → List ℕ → Option S → List (Bool × Question S)
 consequent b keyword None = []
@@ -225,37 +294,57 @@ counting (string s) least most qs = every (at (codes "contains")) [] []
 counting (array ds) least most qs = counted least most qs
 counting (object ms) least most qs = every (at (codes "contains")) [] []
 
--- ---- the rule of each keyword at a value
+-- ---- what a form asks, notes and tells
+
+-- the value by each entry that is a schema and whose name is a member
+abbrev pub each_dependency : {S : Type 0} → List ℕ → Data → List (List ℕ × Dependency S) → List (Question S)
+each_dependency keyword d ps = flat_map (λ p. if_member (get p.0 d) (λ e. applied keyword p.0 p.1)) ps
+
+-- the questions, by the matches, of a keyword of this name
+abbrev pub asked : {S : Type 0} → (List ℕ → List ℕ → Bool) → List ℕ → Data → Form S → List (Question S)
+asked matches k d (each_from start s) = each_item k s start (items_from start (items_of d))
+asked matches k d (by_index ss) = item_by_item k ss 0 (items_of d)
+asked matches k d (by_name ps) = each_declared k d ps
+asked matches k d (by_pattern ps) = each_matching matches k d ps
+asked matches k d (of_others declared s) = each_member k s (other_members matches declared d)
+asked matches k d (of_members s) = each_member k s (members_of d)
+asked matches k d (of_names s) = each_name (at k) s (names_of d)
+asked matches k d (of_triggered ps) = each_triggered k d ps
+asked matches k d (of_dependencies ps) = each_dependency k d ps
+asked matches k d (of_branches ss) = each_branch k 0 ss
+asked matches k d (of_value schema s) = here k s ∷ []
+asked matches k d (of_condition s t e) = here k s ∷ consequents (consequent true (codes "then") t ++ consequent false (codes "else") e)
+
+-- what it notes of the value itself
+abbrev pub noted : {S : Type 0} → Form S → Data → List Note
+noted (of_dependencies ps) d = flat_map (λ p. if_member (get p.0 d) (λ e. needed d p.1)) ps
+noted form d = []
+
+-- the kind of the one fault that speaks for all that it asks, and the value at fault
+abbrev pub kind_in : {S : Type 0} → (List ℕ → List ℕ → Bool) → Form S → Data → Kind
+kind_in matches (each_from start s) d = AdditionalItems
+kind_in matches (of_others declared s) d = AdditionalProperties (map (λ m. m.0) (other_members matches declared d))
+kind_in matches (of_value schema s) d = Not schema
+kind_in matches form d = FalseSchema
+
+abbrev pub value_in : {S : Type 0} → Form S → Data → Data
+value_in (of_members s) d = first_value d (members_of d)
+value_in form d = d
+
+-- ---- the rule of each keyword at a value: `items`, `prefixItems` and `additionalItems` (C 10.3.1.1, 10.3.1.2; 2019-09, C 9.3.1),
+-- `contains` (C 10.3.1.3, V 6.4.4, 6.4.5), `properties`, `patternProperties`, `additionalProperties`, `propertyNames` (C 10.3.2.1 to 10.3.2.4),
+-- `dependentSchemas` (C 10.2.2.4), `dependencies` (Draft 7, V 6.5.7), `allOf`, `anyOf`, `oneOf`, `not` (C 10.2.1.1 to 10.2.1.4),
+-- `if`, `then`, `else` (C 10.2.2.1 to 10.2.2.3), references (C 8.2.3), the schema `false` (C 4.3.2)
 
 abbrev pub rule : {S : Type 0} → (List ℕ → List ℕ → Bool) → Data → Shape S → Rule S
-rule matches d never = every [] (record { kind = FalseSchema; value = d } ∷ []) []  -- C 4.3.2
+rule matches d never = every [] (record { kind = FalseSchema; value = d } ∷ []) []
 rule matches d (asserts a) = every (at (named a)) (wrong matches a d) []
-rule matches d (items start s) = every (at (codes "items")) [] (each_item (codes "items") s start (items_from start (items_of d)))  -- C 10.3.1.2
-rule matches d (item_list ss) = every (at (codes "items")) [] (item_by_item (codes "items") ss 0 (items_of d))  -- 2019-09, C 9.3.1.1
-rule matches d (prefix_items ss) = every (at (codes "prefixItems")) [] (item_by_item (codes "prefixItems") ss 0 (items_of d))  -- C 10.3.1.1
-rule matches d (additional_items start s) =
-    every (at (codes "additionalItems")) [] (each_item (codes "additionalItems") s start (items_from start (items_of d)))  -- 2019-09, C 9.3.1.2
-rule matches d (no_additional_items start s) =
-    together (at (codes "additionalItems")) (record { kind = AdditionalItems; value = d }) (each_item (codes "additionalItems") s start (items_from start (items_of d)))
-rule matches d (contains s least most) = counting d least most (each_item (codes "contains") s 0 (items_of d))  -- C 10.3.1.3, V 6.4.4, 6.4.5
-rule matches d (properties ps) = every (at (codes "properties")) [] (each_declared (codes "properties") d ps)  -- C 10.3.2.1
-rule matches d (pattern_properties ps) = every (at (codes "patternProperties")) [] (each_matching matches (codes "patternProperties") d ps)  -- C 10.3.2.2
-rule matches d (additional_properties declared s) =
-    every (at (codes "additionalProperties")) [] (each_member (codes "additionalProperties") s (other_members matches declared d))  -- C 10.3.2.3
-rule matches d (no_additional_properties declared s) =
-    together (at (codes "additionalProperties")) (record { kind = AdditionalProperties (map (λ m. m.0) (other_members matches declared d)); value = d })
-    (each_member (codes "additionalProperties") s (other_members matches declared d))
-rule matches d (no_properties s) =
-    together (at (codes "additionalProperties")) (record { kind = FalseSchema; value = first_value d (members_of d) }) (each_member (codes "additionalProperties") s (members_of d))
-rule matches d (property_names s) = each_named (at (codes "propertyNames")) s (names_of d)  -- C 10.3.2.4
-rule matches d (no_property_names s) =
-    together (at (codes "propertyNames")) (record { kind = FalseSchema; value = d }) (each_name (at (codes "propertyNames")) s (names_of d))
-rule matches d (dependent_schemas ps) = every (at (codes "dependentSchemas")) [] (each_triggered (codes "dependentSchemas") d ps)  -- C 10.2.2.4
-rule matches d (dependencies ps) =
-    every (at (codes "dependencies")) (flat_map (λ p. if_member (get p.0 d) (λ e. needed d p.1)) ps) (flat_map (λ p. if_member (get p.0 d) (λ e. applied p.0 p.1)) ps)  -- Draft 7, V 6.5.7
-rule matches d (all_of ss) = every (at (codes "allOf")) [] (each_branch (codes "allOf") 0 ss)  -- C 10.2.1.1
-rule matches d (any_of ss) = some_branch (at (codes "anyOf")) (each_branch (codes "anyOf") 0 ss)  -- C 10.2.1.2
-rule matches d (one_of ss) = one_branch (at (codes "oneOf")) (each_branch (codes "oneOf") 0 ss)  -- C 10.2.1.3
-rule matches d (negation schema s) = refusal (at (codes "not")) schema (here (codes "not") s)  -- C 10.2.1.4
-rule matches d (condition s t e) = conditional (here (codes "if") s) (consequent true (codes "then") t ++ consequent false (codes "else") e)  -- C 10.2.2.1 to 10.2.2.3
-rule matches d (reference r s) = every (at (reference_name r)) [] (record { site = s; step = stay; added = at (reference_name r); follows = true } ∷ [])  -- C 8.2.3
+rule matches d (asks_every k form) = every (at k) (noted form d) (asked matches k d form)
+rule matches d (asks_together k form) = together (at k) (record { kind = kind_in matches form d; value = value_in form d }) (asked matches k d form)
+rule matches d (asks_names k s) = each_named (at k) s (names_of d)
+rule matches d (asks_some k form) = some_branch (at k) (asked matches k d form)
+rule matches d (asks_one k form) = one_branch (at k) (asked matches k d form)
+rule matches d (asks_no k schema s) = refusal (at k) schema (here k s)
+rule matches d (contains s least most) = counting d least most (each_item (codes "contains") s 0 (items_of d))
+rule matches d (condition s t e) = conditional (here (codes "if") s) (consequent true (codes "then") t ++ consequent false (codes "else") e)
+rule matches d (reference r s) = every (at (reference_name r)) [] (record { site = s; step = stay; added = at (reference_name r); follows = true } ∷ [])

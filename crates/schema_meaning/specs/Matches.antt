@@ -5,7 +5,7 @@ use Rattle.serde_json.specs.Data.{Data, null, boolean, number, string, array, ob
 use Rattle.json_values.specs.Patterns.{matched}
 use Rattle.schema_meaning.specs.Members.{In}
 use Rattle.schema_meaning.specs.Questions.{names_of}
-use Rattle.schema_meaning.specs.Keywords.{Assertion, types, constant, enumeration, multiple_of, maximum, exclusive_maximum, minimum, exclusive_minimum, maximum_of_draft_4, minimum_of_draft_4, max_length, min_length, pattern, max_items, min_items, unique_items, max_properties, min_properties, required, dependent_required, Shape, never, asserts, items, item_list, prefix_items, additional_items, no_additional_items, contains, properties, pattern_properties, additional_properties, no_additional_properties, no_properties, property_names, no_property_names, dependent_schemas, dependencies, all_of, any_of, one_of, negation, condition, reference}
+use Rattle.schema_meaning.specs.Keywords.{Assertion, types, constant, enumeration, multiple_of, maximum, exclusive_maximum, minimum, exclusive_minimum, maximum_of_draft_4, minimum_of_draft_4, max_length, min_length, pattern, max_items, min_items, unique_items, max_properties, min_properties, required, dependent_required, Form, each_from, by_index, by_name, by_pattern, of_others, of_members, of_names, of_triggered, of_dependencies, of_branches, of_value, of_condition, Shape, never, asserts, asks_every, asks_together, asks_names, asks_some, asks_one, asks_no, contains, condition, reference}
 
 abbrev pub of_text : List ℕ → Data → List (List ℕ × List ℕ)
 of_text p null = []
@@ -16,8 +16,8 @@ of_text p (array ds) = []
 of_text p (object ms) = []
 
 -- a pattern with each name of the object
-abbrev pub of_names : Data → List ℕ → List (List ℕ × List ℕ)
-of_names d p = map (λ k. (p, k)) (names_of d)
+abbrev pub with_names : Data → List ℕ → List (List ℕ × List ℕ)
+with_names d p = map (λ k. (p, k)) (names_of d)
 
 abbrev pub asserted_matches : Assertion → Data → List (List ℕ × List ℕ)
 asserted_matches (types ts) d = []
@@ -41,29 +41,32 @@ asserted_matches (min_properties n) d = []
 asserted_matches (required names) d = []
 asserted_matches (dependent_required ps) d = []
 
+-- the matches that a form asks for at a value
+abbrev pub form_matches : {S : Type 0} → Data → Form S → List (List ℕ × List ℕ)
+form_matches d (each_from start s) = []
+form_matches d (by_index ss) = []
+form_matches d (by_name ps) = []
+form_matches d (by_pattern ps) = flat_map (λ p. with_names d p.0) ps
+form_matches d (of_others declared s) = flat_map (with_names d) declared.patterns
+form_matches d (of_members s) = []
+form_matches d (of_names s) = []
+form_matches d (of_triggered ps) = []
+form_matches d (of_dependencies ps) = []
+form_matches d (of_branches ss) = []
+form_matches d (of_value schema s) = []
+form_matches d (of_condition s t e) = []
+
 -- the matches that a keyword asks for at a value
 abbrev pub match_sites : {S : Type 0} → Data → Shape S → List (List ℕ × List ℕ)
 match_sites d never = []
 match_sites d (asserts a) = asserted_matches a d
-match_sites d (items start s) = []
-match_sites d (item_list ss) = []
-match_sites d (prefix_items ss) = []
-match_sites d (additional_items start s) = []
-match_sites d (no_additional_items start s) = []
+match_sites d (asks_every k form) = form_matches d form
+match_sites d (asks_together k form) = form_matches d form
+match_sites d (asks_names k s) = []
+match_sites d (asks_some k form) = form_matches d form
+match_sites d (asks_one k form) = form_matches d form
+match_sites d (asks_no k schema s) = []
 match_sites d (contains s least most) = []
-match_sites d (properties ps) = []
-match_sites d (pattern_properties ps) = flat_map (λ p. of_names d p.0) ps
-match_sites d (additional_properties declared s) = flat_map (of_names d) declared.patterns
-match_sites d (no_additional_properties declared s) = flat_map (of_names d) declared.patterns
-match_sites d (no_properties s) = []
-match_sites d (property_names s) = []
-match_sites d (no_property_names s) = []
-match_sites d (dependent_schemas ps) = []
-match_sites d (dependencies ps) = []
-match_sites d (all_of ss) = []
-match_sites d (any_of ss) = []
-match_sites d (one_of ss) = []
-match_sites d (negation schema s) = []
 match_sites d (condition s t e) = []
 match_sites d (reference r s) = []
 

@@ -24,9 +24,9 @@ loop-name-preserved c =
     let all = members_view c.args.entries.now.entries in
     let left = subst (λ (es : List Entry). Left all (members_view es)) c.in-Some.ensures.steps c.loop-name.invariant in
     let e = view c.in-Some.entry.now in
-    let right : (x : Context) → dependency_entry x (codes "dependencies") c.as_str.result.now e ≡ Ok (c.as_str.result.now, dependency_at (site_in x) c.as_str.result.now e) =
-    subst (λ (o : Option Reading). IfNone o ((x : Context) → dependency_entry x (codes "dependencies") c.as_str.result.now e ≡ Ok (c.as_str.result.now, dependency_at (site_in x) c.as_str.result.now e))) c.in_default.is c.in_ok-refused.ensures.right in
-    left_step all _ e (members_view c.next.new.self) left (λ x. subst (λ (n : List ℕ). dependency_entry x (codes "dependencies") n e ≡ Ok (n, dependency_at (site_in x) n e)) c.as_str.ensures.value (right x))
+    let right : (x : Context) → dependency_entry x (codes "dependencies") c.as_str.result.now e ≡ Ok (c.as_str.result.now, dependency_at (site_in x) (codes "dependencies") c.as_str.result.now e) =
+    subst (λ (o : Option Reading). IfNone o ((x : Context) → dependency_entry x (codes "dependencies") c.as_str.result.now e ≡ Ok (c.as_str.result.now, dependency_at (site_in x) (codes "dependencies") c.as_str.result.now e))) c.in_default.is c.in_ok-refused.ensures.right in
+    left_step all _ e (members_view c.next.new.self) left (λ x. subst (λ (n : List ℕ). dependency_entry x (codes "dependencies") n e ≡ Ok (n, dependency_at (site_in x) (codes "dependencies") n e)) c.as_str.ensures.value (right x))
 
 pub returns-in-Some-2-clause-answers : goal.returns-in-Some-2-clause-answers
 returns-in-Some-2-clause-answers c = rw c.in-Some-2.is at c.in_ok-refused.ensures.answers

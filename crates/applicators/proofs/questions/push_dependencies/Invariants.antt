@@ -8,5 +8,5 @@ use Rattle.applicators.specs.Questions.{questions_of, each_dependency}
 use Rattle.applicators.proofs.questions.push_dependencies.Given as goal
 
 abbrev pub invariant-loop-name : goal.invariant-loop-name
-invariant-loop-name l = (site : List Part → Data → Site) → questions_of site l.fn.questions.items ++ each_dependency (view l.value) (dependencies_in site (members_view l.entries.entries))
-    ≡ questions_of site l.questions.items ++ each_dependency (view l.value) (dependencies_in site (members_view l.name-iterator))
+invariant-loop-name l = (site : List Part → Data → Site) → questions_of site l.fn.questions.items ++ each_dependency l.keyword (view l.value) (dependencies_in site l.keyword (members_view l.entries.entries))
+    ≡ questions_of site l.questions.items ++ each_dependency l.keyword (view l.value) (dependencies_in site l.keyword (members_view l.name-iterator))

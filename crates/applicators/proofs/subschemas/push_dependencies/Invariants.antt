@@ -8,5 +8,5 @@ use Rattle.applicators.specs.Shapes.{place_of, dependencies_in}
 use Rattle.applicators.proofs.subschemas.push_dependencies.Given as goal
 
 abbrev pub invariant-loop-name : goal.invariant-loop-name
-invariant-loop-name l = (site : List Part → Data → Site) → map (place_of site) l.fn.found.items ++ sites_applied (dependencies_in site (members_view l.entries.entries))
-    ≡ map (place_of site) l.found.items ++ sites_applied (dependencies_in site (members_view l.name-iterator))
+invariant-loop-name l = (site : List Part → Data → Site) → map (place_of site) l.fn.found.items ++ sites_applied (dependencies_in site l.keyword (members_view l.entries.entries))
+    ≡ map (place_of site) l.found.items ++ sites_applied (dependencies_in site l.keyword (members_view l.name-iterator))

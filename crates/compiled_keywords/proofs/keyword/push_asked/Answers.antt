@@ -1,10 +1,11 @@
 use Rattle.std.proofs.Common.{map, subst}
 use Rattle.std.proofs.lemmas.Result.{on_ok_weaker}
+use Rattle.schema_meaning.specs.Keywords.{each_dependency}
 use Rattle.schema_meaning.specs.Questions.{each_branch, each_declared, each_matching, each_triggered, item_by_item, items_of}
 use Rattle.schema_engine.specs.Matches.{completed}
 use Rattle.schema_engine.specs.Places.{value_at}
 use Rattle.compiled_keywords.specs.Forms.{alone, index_at, name_at}
-use Rattle.compiled_keywords.specs.Owned.{named, by_pattern}
+use Rattle.compiled_keywords.specs.Owned.{named, by_pattern, depending}
 use Rattle.compiled_keywords.specs.Seen.{Puts}
 use Rattle.compiled_keywords.proofs.PushLemmas.{as_asked}
 use Rattle.compiled_keywords.proofs.keyword.push_asked.Goals as goal
@@ -56,6 +57,12 @@ returns-in-Triggered-clause-put g c =
     let reads = completed (g.T.Matching.matches c.args.matching.now) in
     let d = value_at c.args.place in
     on_ok_weaker c.push_triggered.result (λ puts rest k. as_asked (reads rest) k d _ _ _ _ c.in-Triggered.is (subst (λ ns. Puts (name_at k (map named ns)) c.args.into.now.items c.push_triggered.new.into.items (map alone (each_triggered k d (map named ns)))) c.deref-in-Triggered.ensures.value (puts k))) c.push_triggered.ensures
+
+pub returns-in-Dependencies-clause-put : goal.returns-in-Dependencies-clause-put
+returns-in-Dependencies-clause-put g c =
+    let reads = completed (g.T.Matching.matches c.args.matching.now) in
+    let d = value_at c.args.place in
+    on_ok_weaker c.push_dependencies.result (λ puts rest k. as_asked (reads rest) k d _ _ _ _ c.in-Dependencies.is (subst (λ es. Puts (name_at k (map depending es)) c.args.into.now.items c.push_dependencies.new.into.items (map alone (each_dependency k d (map depending es)))) c.deref-in-Dependencies.ensures.value (puts k))) c.push_dependencies.ensures
 
 pub returns-in-Branches-clause-put : goal.returns-in-Branches-clause-put
 returns-in-Branches-clause-put g c =
