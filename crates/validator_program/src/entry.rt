@@ -63,7 +63,7 @@ pub fn program<'a, F: SchemaFiles, S: ByteSource, K: ByteSink, T: ByteSink>(
 {
     match answer(alloc, words, files, reader, writer, faults) {
         Ok(answered) => summed(alloc, &answered, faults),
-        Err(refusal) => told(alloc, &refusal, faults),
+        Err(refusal) => told(alloc, refusal, faults),
     }
 }
 
@@ -132,7 +132,7 @@ fn by_words<F: SchemaFiles, S: ByteSource, K: ByteSink, T: ByteSink>(
 fn plainly_told<T: ByteSink>(alloc: Global, fault: ProgramFault<'_>, faults: &mut T) -> u8
     ensures { (2 ≤ result) × (result ≤ 3) }
 {
-    told(alloc, &Refusal::plain(fault), faults)
+    told(alloc, Refusal::plain(fault), faults)
 }
 
 // The words behind the program's name.
@@ -239,15 +239,18 @@ fn summed<T: ByteSink>(alloc: Global, answered: &Answered, faults: &mut T) -> u8
     answered.report.status()
 }
 
-// Tells a fault, and answers its status.
-fn told<T: ByteSink>(alloc: Global, refusal: &Refusal<'_>, faults: &mut T) -> u8
+// Tells a fault, and answers its status. The fault is let go by a call, since a function that lets one go by itself takes minutes to prove.
+fn told<T: ByteSink>(alloc: Global, refusal: Refusal<'_>, faults: &mut T) -> u8
     ensures range { (2 ≤ result) × (result ≤ 3) }
-    ensures refused { result ≡ 2 → status_of refusal.now.fault ≡ 2 }
+    ensures refused { result ≡ 2 → status_of refusal.entry.fault ≡ 2 }
 {
-    match refusal.text(alloc) {
+    let status = refusal.status();
+    let text = refusal.text(alloc);
+    drop(refusal);
+    match text {
         Ok(text) => {
             write_text(faults, text.as_str());
-            refusal.status()
+            status
         }
         Err(_) => {
             write_text(faults, NO_MEMORY);
